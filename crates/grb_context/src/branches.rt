@@ -9,9 +9,10 @@ ghost use Rattle.grb_context.specs.Known.{IsPassOf, known};
 ghost use Rattle.grb_context.specs.Looking.{IsNow, Looks};
 ghost use Rattle.grb_context.specs.Succeeding.{AreBegun};
 
+use crate::Pass;
 use crate::context::Context;
 use grb_call::{MatrixId, VectorId};
-use grb_pass::{NoSuccessor, Pass};
+use grb_pass::NoSuccessor;
 use std::alloc::Global;
 
 impl Context {

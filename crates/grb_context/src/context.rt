@@ -7,16 +7,18 @@ ghost use Rattle.grb_context.specs.Known.{AreNew, HasNoStatus, IsPassOf, known};
 ghost use Rattle.grb_context.specs.Answered.{Answered};
 ghost use Rattle.grb_context.specs.Meeting.{Met};
 
+use crate::Pass;
 use grb_call::{Call, Reply};
 use grb_core::Refusal;
-use grb_pass::{Pass, Shared};
+use grb_operations::Bench;
+use grb_pass::Shared;
 use std::alloc::{AllocError, Global};
 use std::marker::Model;
 
 /// A store that passes share: the order of all calls, their records, and where they make dear products of two matrices together.
 #[derive(Drop)]
 pub struct Context {
-    pub(crate) shared: Shared,
+    pub(crate) shared: Shared<Bench>,
     // Of the answers to lists of calls.
     pub(crate) alloc: Global,
 }

@@ -2,10 +2,10 @@
 ghost use Rattle.grb_context.specs.Known.{IsPassOf};
 ghost use Rattle.grb_context.specs.Answered.{Answered};
 
+use crate::Pass;
 use crate::context::Context;
 use grb_call::{Call, MatrixId, MatrixTuples, Reply, VectorId, VectorTuples};
 use grb_core::{Domain, Monoid, Refusal, Value};
-use grb_pass::Pass;
 
 impl Context {
     /// Makes a matrix with no entries; `nrows` and `ncols` are from 1 to 4,294,967,295. Otherwise `InvalidValue`. `OutOfMemory` where

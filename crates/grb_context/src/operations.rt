@@ -2,10 +2,10 @@
 ghost use Rattle.grb_context.specs.Known.{IsPassOf};
 ghost use Rattle.grb_context.specs.Answered.{Answered};
 
+use crate::Pass;
 use crate::context::Context;
 use grb_call::{Call, Descriptor, MatrixId, Reply, VectorId};
 use grb_core::{BinaryOp, Refusal};
-use grb_pass::Pass;
 
 impl Context {
     /// `C<M> = accum(C, A + B)`: `op` of the values of `a` and `b` where both store one, else the one value, written into `c`. With

@@ -2,10 +2,10 @@
 ghost use Rattle.grb_context.specs.Known.{IsPassOf};
 ghost use Rattle.grb_context.specs.Answered.{Answered};
 
+use crate::Pass;
 use crate::context::Context;
 use grb_call::{Call, Descriptor, MatrixId, Reply, VectorId};
 use grb_core::{BinaryOp, Monoid, Refusal, Semiring};
-use grb_pass::Pass;
 
 impl Context {
     /// `w<m> = accum(w, A * u)`: at row `i` the monoid's fold of the products of row `i` of `a` and `u` where both store a value, and

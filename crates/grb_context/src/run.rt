@@ -4,10 +4,10 @@ ghost use Rattle.grb_context.specs.Known.{IsPassOf};
 ghost use Rattle.grb_context.specs.Answered.{Answered};
 ghost use Rattle.grb_context.specs.Ran.{Ran};
 
+use crate::Pass;
 use crate::context::Context;
 use grb_call::{Call, Reply};
 use grb_core::Refusal;
-use grb_pass::Pass;
 
 impl Context {
     /// Makes one call that is lent, as `call` does. The copy that is entered shares the list of a build. `OutOfMemory` as of `call`.

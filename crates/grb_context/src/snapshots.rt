@@ -7,10 +7,10 @@ ghost use Rattle.grb_context.specs.Known.{IsPassOf, known};
 ghost use Rattle.grb_context.specs.Snapshot.{IsSnapshot};
 ghost use Rattle.grb_context.specs.StoredIn.{IsMatrixOf, IsVectorOf};
 
+use crate::Pass;
 use crate::context::Context;
 use grb_call::{MatrixId, VectorId, WaitMode};
 use grb_core::Refusal;
-use grb_pass::Pass;
 use grb_sparse::{SparseMatrix, SparseVector};
 use std::sync::Arc;
 

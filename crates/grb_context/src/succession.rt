@@ -10,8 +10,9 @@ ghost use Rattle.grb_context.specs.Live.{live_store};
 ghost use Rattle.grb_context.specs.Renumbered.{AreRenumbered};
 ghost use Rattle.grb_context.specs.Succeeding.{AreBegun};
 
+use crate::Pass;
 use crate::context::Context;
-use grb_pass::{NoSuccessor, Pass, Renumbered};
+use grb_pass::{NoSuccessor, Renumbered};
 use std::alloc::Global;
 
 impl Context {

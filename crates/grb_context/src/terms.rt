@@ -11,12 +11,12 @@ ghost use Rattle.grb_context.specs.Known.{IsPassOf, known};
 ghost use Rattle.grb_context.specs.Snapshot.{IsSnapshot};
 ghost use Rattle.grb_tuples.specs.Tuples.{tuples_of};
 
+use crate::Pass;
 use crate::context::Context;
 use grb_call::{
     Call, Descriptor, MatrixId, MatrixTerm, MatrixTuples, Reply, VectorId, VectorTerm, VectorTuples,
 };
 use grb_core::{BinaryOp, Diagonal, Function, Refusal, Test};
-use grb_pass::Pass;
 
 impl Context {
     /// `C<M> = accum(C, A')`: the rows of `a` as columns, written into `c`; with `d.tran` that is `a` itself, since it is turned twice.

@@ -2,10 +2,10 @@
 ghost use Rattle.grb_context.specs.Known.{IsPassOf};
 ghost use Rattle.grb_context.specs.Answered.{Answered};
 
+use crate::Pass;
 use crate::context::Context;
 use grb_call::{Call, MatrixId, Reply, VectorId, WaitMode};
 use grb_core::Refusal;
-use grb_pass::Pass;
 
 impl Context {
     /// Has the pending work on the matrix done for this pass, or with `Materialize` that on all objects, up to the point of the call, and

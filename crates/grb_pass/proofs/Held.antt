@@ -5,7 +5,7 @@ use Rattle.grb_call.specs.declared.ids.Object.TheVariants as object
 use Rattle.grb_call.specs.declared.ids.MatrixId.{MatrixId}
 use Rattle.grb_call.specs.declared.ids.VectorId.{VectorId}
 use Rattle.grb_slices.specs.Content.{MatrixContent, VectorContent}
-use Rattle.grb_slices.proofs.Going.{take_all}
+use Rattle.grb_slices.proofs.Lists.{take_all}
 use Rattle.grb_slices.proofs.Live.{live_by}
 use Rattle.grb_results.specs.Kept.{IsReady}
 use Rattle.grb_pass.proofs.Evaluating.{le_or_lt}

@@ -3,8 +3,8 @@ use Rattle.std.specs.Prelude.{◌≡◌, ℕ, ◌+◌, ◌≤◌, length, IfSome
 use Rattle.grb_order.specs.Order.{room_of}
 use Rattle.grb_call.specs.declared.ids.Object.{Object}
 use Rattle.grb_call.specs.History.{calls_of}
-use Rattle.grb_state.specs.Settled.{AreAllAssembled}
-use Rattle.grb_state.specs.State.{RoomyStore, is_assembled}
+use Rattle.grb_states.specs.Settled.{AreAllAssembled}
+use Rattle.grb_states.specs.State.{RoomyStore, is_assembled}
 use Rattle.grb_results.specs.Kept.{AreReady, IsReady}
 use Rattle.grb_results.specs.Results.{IsTable}
 use Rattle.grb_results.specs.declared.table.Table.{Table}

@@ -13,11 +13,12 @@ use crate::pass::Pass;
 use crate::shared::Shared;
 use grb_call::{MatrixId, VectorId};
 use grb_core::Refusal;
+use grb_objects::Helps;
 use grb_reader::End;
 use grb_rebuild::NoSuccessor;
 use std::alloc::Global;
 
-impl Shared {
+impl<O: Helps> Shared<O> {
     /// A new store that begins with these objects, as this pass knows them, and the passes of it: the matrix at place k of its list has the
     /// number k, and so has the vector at place k of its own; one that is not there is not there. Its history takes `room` calls beside
     /// those that make this store, which the first pass enters and all know. The pass makes what these objects hold and nothing else; no
@@ -27,12 +28,12 @@ impl Shared {
     pub fn branch(
         &self,
         alloc: Global,
-        pass: &mut Pass,
+        pass: &mut Pass<O>,
         matrices: &[MatrixId],
         vectors: &[VectorId],
         room: u32,
         passes: u32,
-    ) -> Result<(Shared, Vec<Pass>), NoSuccessor>
+    ) -> Result<(Shared<O>, Vec<Pass<O>>), NoSuccessor>
         requires pass { IsPassOf self.now pass.old }
         requires room { (0 < room) × (room ≤ MOST_ROOM) }
         requires passes { (0 < passes) × (passes ≤ MOST_PASSES) }
@@ -51,7 +52,7 @@ impl Shared {
     }
 
     /// Learns the order to its end, as a call does that only reads. `Panic` where a record is not shown.
-    fn look(&self, pass: &mut Pass) -> Result<End, Refusal>
+    fn look(&self, pass: &mut Pass<O>) -> Result<End, Refusal>
         requires pass { IsPassOf self.now pass.old }
         ensures pass { IsPassOf self.now pass.new }
         ensures looks { Looks (room_of self.now.order) pass.old pass.new }
@@ -66,12 +67,12 @@ impl Shared {
     pub fn branch_now(
         &self,
         alloc: Global,
-        pass: &mut Pass,
+        pass: &mut Pass<O>,
         matrices: &[MatrixId],
         vectors: &[VectorId],
         room: u32,
         passes: u32,
-    ) -> Result<(Shared, Vec<Pass>), NoSuccessor>
+    ) -> Result<(Shared<O>, Vec<Pass<O>>), NoSuccessor>
         requires pass { IsPassOf self.now pass.old }
         requires room { (0 < room) × (room ≤ MOST_ROOM) }
         requires passes { (0 < passes) × (passes ≤ MOST_PASSES) }

@@ -33,14 +33,15 @@ use crate::pass::Pass;
 use crate::shared::Shared;
 use grb_call::{Call, Reply};
 use grb_core::Refusal;
+use grb_objects::Helps;
 use grb_reader::End;
 use grb_records::Token;
 
-impl Shared {
+impl<O: Helps> Shared<O> {
     /// Learns the order to its end, and checks there a call that enters. Takes memory for a build alone, whose object is evaluated, and
     /// does not wait. `OutOfMemory` where that is refused; then the pass has learnt what it learnt.
     #[inline(always)]
-    fn ready(&self, pass: &mut Pass, call: &Call) -> Result<(), Refusal>
+    fn ready(&self, pass: &mut Pass<O>, call: &Call) -> Result<(), Refusal>
         requires pass { IsPassOf self.now pass.old }
         requires enters { enters call.now ≡ true }
         requires few { pass.old.steps < 2 ^ 30 }
@@ -66,7 +67,7 @@ impl Shared {
     /// with the words learnt since. `OutOfMemory` of a build alone, where memory is refused to the evaluation of its object; then its
     /// record is spent, and nothing is entered.
     #[inline(always)]
-    pub(crate) fn enter_token(&self, pass: &mut Pass, token: Token) -> Result<Reply, Refusal>
+    pub(crate) fn enter_token(&self, pass: &mut Pass<O>, token: Token) -> Result<Reply, Refusal>
         requires pass { IsPassOf self.now pass.old }
         requires steady { IsSteady pass.old }
         requires of { IsOf self.now.records token }
@@ -100,7 +101,7 @@ impl Shared {
     /// Puts the record of a call and enters it. `OutOfMemory` where memory is refused to the record, or to the evaluation of a build's
     /// object; then nothing is entered.
     #[inline(always)]
-    fn enter_record(&self, pass: &mut Pass, call: Call) -> Result<Reply, Refusal>
+    fn enter_record(&self, pass: &mut Pass<O>, call: Call) -> Result<Reply, Refusal>
         requires pass { IsPassOf self.now pass.old }
         requires enters { enters call ≡ true }
         requires begun { pass.old.steps ≡ 0 }
@@ -120,7 +121,7 @@ impl Shared {
 
     /// Puts the record of a copy of a call and enters it. The copy is made once the call is found not to be refused. `OutOfMemory` as of
     /// `enter_record`.
-    fn enter_record_of_copy(&self, pass: &mut Pass, call: &Call) -> Result<Reply, Refusal>
+    fn enter_record_of_copy(&self, pass: &mut Pass<O>, call: &Call) -> Result<Reply, Refusal>
         requires pass { IsPassOf self.now pass.old }
         requires enters { enters call.now ≡ true }
         requires begun { pass.old.steps ≡ 0 }
@@ -144,7 +145,7 @@ impl Shared {
     /// Enters a call that changes the store, after all that were entered before it. Takes memory for its record, and for a build for the
     /// evaluation of its object, and does not wait. `OutOfMemory` where that is refused; then nothing is entered.
     #[inline(always)]
-    pub fn enter(&self, pass: &mut Pass, call: Call) -> Result<Reply, Refusal>
+    pub fn enter(&self, pass: &mut Pass<O>, call: Call) -> Result<Reply, Refusal>
         requires pass { IsPassOf self.now pass.old }
         requires enters { enters call ≡ true }
         ensures pass { IsPassOf self.now pass.new }
@@ -159,7 +160,7 @@ impl Shared {
 
     /// Enters a copy of a call that changes the store, as `enter` does, and does not wait. The copy takes no memory: it shares the list of
     /// a build. `OutOfMemory` as of `enter`.
-    pub fn enter_copy(&self, pass: &mut Pass, call: &Call) -> Result<Reply, Refusal>
+    pub fn enter_copy(&self, pass: &mut Pass<O>, call: &Call) -> Result<Reply, Refusal>
         requires pass { IsPassOf self.now pass.old }
         requires enters { enters call.now ≡ true }
         ensures pass { IsPassOf self.now pass.new }

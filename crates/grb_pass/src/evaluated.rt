@@ -17,12 +17,11 @@ mod exchange;
 mod held;
 mod succeeding;
 
-use grb_jobs::Board;
+use grb_editions::Versions;
+use grb_objects::Helps;
 use grb_reader::Reader;
 use grb_records::Records;
-use grb_replay::Versions;
 use grb_results::Table;
-use grb_state::Bench;
 use std::alloc::{AllocError, Global};
 use std::marker::Model;
 use std::sync::Arc;
@@ -31,10 +30,10 @@ use std::sync::Arc;
 /// what it needs and lacks, and nothing else. Results that other passes left are looked for before, where that pays, and dear ones are left
 /// to the others.
 #[derive(Drop)]
-pub(crate) struct Evaluated {
+pub(crate) struct Evaluated<O: Helps> {
     table: Table,
     // Where one operation is made, and the calls that wait for others.
-    bench: Bench,
+    bench: O,
     stack: Vec<u32>,
     versions: Arc<Versions>,
     // Whether the context has no other pass.
@@ -46,7 +45,7 @@ pub(crate) struct Evaluated {
     left: u64,
 }
 
-impl Model for Evaluated {
+impl<O: Helps> Model for Evaluated<O> {
     ghost use Rattle.grb_results.specs.declared.table.Table.{Table};
 
     ghost Value = { Table };
@@ -54,16 +53,15 @@ impl Model for Evaluated {
     ghost view = { λ e. e.table };
 }
 
-impl Evaluated {
-    /// No call is evaluated, with room for so many; dear products are made on the board, if there is one. `AllocError` where memory is
-    /// refused.
+impl<O: Helps> Evaluated<O> {
+    /// No call is evaluated, with room for so many; operations are made on the bench. `AllocError` where memory is refused.
     pub(crate) fn open(
         alloc: Global,
         room: u32,
         versions: Arc<Versions>,
-        board: Option<Arc<Board>>,
+        bench: O,
         alone: bool,
-    ) -> Result<Evaluated, AllocError>
+    ) -> Result<Evaluated<O>, AllocError>
         ensures table { IfOk result (λ t. (cs : List Call) → IsTable cs t) }
         ensures room { IfOk result (λ t. t.learnt.shapes.room ≡ room) }
         ensures none { IfOk result (λ t. length t.learnt.nodes.items ≡ 0) }
@@ -71,7 +69,7 @@ impl Evaluated {
     {
         Ok(Evaluated {
             table: Table::open(alloc, room)?,
-            bench: Bench::new(alloc).with_board(board),
+            bench,
             stack: Vec::new(alloc),
             versions,
             alone,
@@ -119,7 +117,7 @@ impl Evaluated {
         records: &Records,
         reader: &mut Reader,
         theirs: &Reader,
-        other: &Evaluated,
+        other: &Evaluated<O>,
     )
         requires evaluated { IsEvaluatedFor reader.old self.old }
         requires other { IsEvaluatedFor theirs.now other.now }

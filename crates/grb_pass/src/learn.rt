@@ -7,9 +7,10 @@ ghost use Rattle.grb_reader.specs.Learning.{Finds, IsSteady, Learns, LooksAtEnd}
 
 use crate::shared::Shared;
 use grb_core::Refusal;
+use grb_objects::Helps;
 use grb_reader::{End, Reader};
 
-impl Shared {
+impl<O: Helps> Shared<O> {
     /// Has the reader of a pass learn the order to its end, as [`Reader::learn`] does.
     pub(crate) fn learn(&self, reader: &mut Reader) -> Result<End, Refusal>
         requires pass { IsPassOf self.now reader.old }

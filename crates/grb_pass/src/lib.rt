@@ -4,7 +4,8 @@
 //! that it has learnt and the records that it was shown, and results that it evaluates for itself. One unit is one call: `enter` checks a
 //! call against all that was entered before it and enters it by one compare-and-swap, `read` answers one that only reads, and `meet` lets a
 //! pass learn what another knows. Nothing here starts a thread or waits for one; after a lost try a pass idles for 16 to 1,024 turns of a
-//! loop. Which calls there are is left to the crates below.
+//! loop. Which calls there are is left to the crates below, and
+//! what operates to the crate above: all is over any that does.
 #![tactic(auto)]
 
 mod branch;

@@ -6,12 +6,13 @@ ghost use Rattle.grb_reader.specs.Meeting.{Met};
 use crate::pass::Pass;
 use crate::shared::Shared;
 use grb_core::Refusal;
+use grb_objects::Helps;
 
-impl Shared {
+impl<O: Helps> Shared<O> {
     /// Lets the pass learn all that the other knows: one atomic load of each word that it had not learnt, and three of the first word,
     /// which are not counted. `Panic` where a record is not shown; the words stay learnt, and the next call or meeting asks for it again.
     /// Nothing that the other pass knows changes, whatever is answered. Takes no memory and does not wait.
-    pub fn meet(&self, pass: &mut Pass, other: &mut Pass) -> Result<(), Refusal>
+    pub fn meet(&self, pass: &mut Pass<O>, other: &mut Pass<O>) -> Result<(), Refusal>
         requires pass { IsPassOf self.now pass.old }
         requires other { IsPassOf self.now other.old }
         ensures met { Met self.now pass.old pass.new other.old result }
@@ -25,7 +26,7 @@ impl Shared {
     /// Lets the pass learn all that the other knows, as `meet` does, and then keep also what the other has evaluated: an answer makes what is
     /// left. Both share those objects until one of them changes one; no entry is copied before. Where memory is refused, the pass evaluates
     /// for itself.
-    pub fn adopt(&self, pass: &mut Pass, other: &mut Pass) -> Result<(), Refusal>
+    pub fn adopt(&self, pass: &mut Pass<O>, other: &mut Pass<O>) -> Result<(), Refusal>
         requires pass { IsPassOf self.now pass.old }
         requires other { IsPassOf self.now other.old }
         ensures met { Met self.now pass.old pass.new other.old result }
@@ -41,7 +42,7 @@ impl Shared {
     /// Evaluates what the pass knows where that is dear, so that passes that adopt it have no work of their own with that, and answers before
     /// how many of the calls that it knows none is made any more, whatever is asked: all of them where each object is evaluated. It learns
     /// nothing and changes no answer. Takes memory for the evaluation; where it is refused, fewer are evaluated.
-    pub fn prepare(&self, pass: &mut Pass) -> u32
+    pub fn prepare(&self, pass: &mut Pass<O>) -> u32
         requires { IsPassOf self.now pass.old }
         ensures pass { IsPassOf self.now pass.new }
         ensures same { pass.new ≡ record pass.old { made = pass.new.made } }
@@ -52,7 +53,7 @@ impl Shared {
 
     /// Makes blocks of the dear products that other passes make at the moment, and answers how many: 0 where there is none. It learns
     /// nothing, changes no answer and waits for no one. Takes memory for the blocks; where it is refused, it ends, and nothing is lost.
-    pub fn help(&self, pass: &mut Pass) -> u32
+    pub fn help(&self, pass: &mut Pass<O>) -> u32
         requires { IsPassOf self.now pass.old }
         ensures same { pass.new ≡ pass.old }
         ensures pass { IsPassOf self.now pass.new }

@@ -11,8 +11,8 @@ ghost use Rattle.grb_call.specs.After.{refused};
 ghost use Rattle.grb_call.specs.History.{store_of};
 ghost use Rattle.grb_call.specs.Status.{object_of};
 ghost use Rattle.grb_call.specs.Statuses.{status_at};
-ghost use Rattle.grb_state.specs.Live.{live_store};
-ghost use Rattle.grb_state.specs.StoredIn.{IsMatrixOf, IsVectorOf};
+ghost use Rattle.grb_states.specs.Live.{live_store};
+ghost use Rattle.grb_states.specs.StoredIn.{IsMatrixOf, IsVectorOf};
 ghost use Rattle.grb_rebuild.specs.Rebuilding.{IsRebuild};
 ghost use Rattle.grb_rebuild.specs.Renumbered.{AreRenumbered};
 ghost use Rattle.grb_pass.specs.Chosen.{IsNoSuccessor, MayHaveRoom, NamesChosen, NamesLive, chosen_store, room_beside};
@@ -30,31 +30,31 @@ ghost use Rattle.grb_reader.specs.Settled.{is_materialize, waited_for, LeavesRea
 use crate::evaluated::Evaluated;
 use grb_call::{Call, Class, Kind, MatrixId, Object, Reply, VectorId, WaitMode};
 use grb_core::{Info, Refusal};
-use grb_jobs::Board;
+use grb_editions::Versions;
+use grb_objects::Helps;
 use grb_order::{Order, Seat};
 use grb_reader::{BackOff, LiveObjects, Reader, RecordRow};
 use grb_rebuild::{NoSuccessor, Rebuild, Renumbered};
 use grb_records::{Records, Token};
-use grb_replay::Versions;
 use grb_sparse::{SparseMatrix, SparseVector};
-use grb_state::State;
+use grb_states::State;
 use std::alloc::{AllocError, Global};
 use std::marker::Model;
 use std::sync::Arc;
 
 /// One thread's view of a context: its number, and what it knows of the history.
 #[derive(Drop)]
-pub struct Pass {
+pub struct Pass<O: Helps> {
     pub(crate) reader: Reader,
     // What it has evaluated of the calls that it knows.
-    evaluated: Evaluated,
+    evaluated: Evaluated<O>,
     // Where its own records go.
     row: RecordRow,
     // How long it holds back after a lost try.
     back_off: BackOff,
 }
 
-impl Model for Pass {
+impl<O: Helps> Model for Pass<O> {
     ghost use Rattle.grb_pass.specs.Evaluated.{IsPassState};
     ghost use Rattle.grb_reader.specs.Known.{Knowing};
 
@@ -94,7 +94,7 @@ fn waited_for(call: &Call) -> Option<Object>
     }
 }
 
-impl Pass {
+impl<O: Helps> Pass<O> {
     /// A pass that knows no call, with memory for all that it can learn. `AllocError` where memory is refused.
     pub(crate) fn open(
         alloc: Global,
@@ -102,16 +102,16 @@ impl Pass {
         seat: Seat,
         room: u32,
         versions: Arc<Versions>,
-        board: Option<Arc<Board>>,
+        bench: O,
         alone: bool,
-    ) -> Result<Pass, AllocError>
+    ) -> Result<Pass<O>, AllocError>
         requires number { (number ≡ seat.view.number) × (number < seat.view.passes) }
         requires room { (room ≡ room_of seat.table_id) × (room ≤ MOST_ROOM) }
         requires fresh { seat.view ≡ fresh number seat.view.passes }
         ensures { IfOk result (λ pass. pass ≡ new_pass seat.table_id seat.view) }
     {
         let reader = Reader::open(alloc, number, seat, room)?;
-        let evaluated = Evaluated::open(alloc, room, versions, board, alone)?;
+        let evaluated = Evaluated::open(alloc, room, versions, bench, alone)?;
         Ok(Pass {
             reader,
             evaluated,
@@ -363,7 +363,7 @@ impl Pass {
     }
 
     /// Keeps also what the other has evaluated, whose calls begin those that this pass knows.
-    pub(crate) fn take_over(&mut self, records: &Records, other: &Pass)
+    pub(crate) fn take_over(&mut self, records: &Records, other: &Pass<O>)
         requires records { All (IsOf records.now) self.old.shown }
         requires begins { Begins (known other.now) (known self.old) }
         requires none { self.old.made.ready ≡ None }

@@ -14,11 +14,12 @@ use crate::pass::Pass;
 use crate::shared::Shared;
 use grb_call::{Call, Reply};
 use grb_core::Refusal;
+use grb_objects::Helps;
 
-impl Shared {
+impl<O: Helps> Shared<O> {
     /// Learns the order to its end, checks the call there, evaluates what its answer needs, and settles all where it waits for all.
     /// `OutOfMemory` where memory for that is refused: no entry changes, and what was made stays made.
-    fn read_at_end(&self, pass: &mut Pass, call: &Call) -> Result<Reply, Refusal>
+    fn read_at_end(&self, pass: &mut Pass<O>, call: &Call) -> Result<Reply, Refusal>
         requires pass { IsPassOf self.now pass.old }
         requires reads { enters call.now ≡ false }
         requires begun { pass.old.steps ≡ 0 }
@@ -41,7 +42,7 @@ impl Shared {
 
     /// Answers a call that only reads. Takes memory for the evaluation of calls and for the changes that wait, and none where all known
     /// calls are settled; does not wait. `OutOfMemory` where that is refused: no entry changes, and what was made stays made.
-    pub fn read(&self, pass: &mut Pass, call: &Call) -> Result<Reply, Refusal>
+    pub fn read(&self, pass: &mut Pass<O>, call: &Call) -> Result<Reply, Refusal>
         requires pass { IsPassOf self.now pass.old }
         requires reads { enters call.now ≡ false }
         ensures pass { IsPassOf self.now pass.new }

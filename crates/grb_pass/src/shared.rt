@@ -6,10 +6,10 @@ ghost use Rattle.grb_records.specs.Token.{HasRows};
 ghost use Rattle.grb_reader.specs.Known.{AreNew, HasNoStatus, IsPassOf};
 
 use crate::pass::Pass;
-use grb_jobs::Board;
+use grb_editions::Versions;
+use grb_objects::Helps;
 use grb_order::{Order, Seat};
 use grb_records::Records;
-use grb_replay::Versions;
 use std::alloc::{AllocError, Global};
 use std::marker::Model;
 use std::sync::Arc;
@@ -17,14 +17,14 @@ use std::sync::Arc;
 /// What the passes of a context share: the order of all calls, their records, and where they make dear products of two matrices
 /// together.
 #[derive(Drop)]
-pub struct Shared {
+pub struct Shared<O: Helps> {
     pub(crate) order: Order,
     pub(crate) records: Records,
-    // None for one pass alone, and where memory for it was refused.
-    board: Option<Arc<Board>>,
+    // On which nothing is made: those of the passes are opened beside it.
+    bench: O,
 }
 
-impl Model for Shared {
+impl<O: Helps> Model for Shared<O> {
     ghost use Rattle.grb_reader.specs.Known.{Shared};
 
     ghost Value = { Shared };
@@ -41,32 +41,16 @@ fn versions_for(alloc: Global, room: u32) -> Result<Arc<Versions>, AllocError> {
     }
 }
 
-/// Where dear products are made together, if they are. None also where memory is refused: then each pass makes its own.
-fn board_for(alloc: Global, together: bool) -> Option<Arc<Board>> {
-    if !together {
-        return None;
-    }
-    Arc::new(alloc, Board::open(alloc)).ok()
-}
-
-/// The same board for one pass more, if there is one.
-fn share_of(board: &Option<Arc<Board>>) -> Option<Arc<Board>> {
-    match board {
-        Some(board) => Arc::try_clone(board).ok(),
-        None => None,
-    }
-}
-
 /// A pass for each of the seats. `AllocError` where memory is refused; then the seats are dropped.
-fn passes_of(
+fn passes_of<O: Helps>(
     alloc: Global,
     order: &Order,
     seats: Vec<Seat>,
     room: u32,
     passes: u32,
     versions: &Arc<Versions>,
-    board: &Option<Arc<Board>>,
-) -> Result<Vec<Pass>, AllocError>
+    bench: &O,
+) -> Result<Vec<Pass<O>>, AllocError>
     requires room { (room_of order.now ≡ room) × (room ≤ MOST_ROOM) }
     requires passes { passes ≤ MOST_PASSES }
     requires seats { AreFresh order.now passes seats.items passes }
@@ -76,18 +60,22 @@ fn passes_of(
     for seat in seats {
         let number = opened.len() as u32;
         let versions = Arc::try_clone(versions)?;
-        let board = share_of(board);
-        opened.push_reserved(Pass::open(alloc, number, seat, room, versions, board, passes == 1)?);
+        let bench = bench.beside();
+        opened.push_reserved(Pass::open(alloc, number, seat, room, versions, bench, passes == 1)?);
     }
     Ok(opened)
 }
 
-impl Shared {
+impl<O: Helps> Shared<O> {
     /// What passes share whose history takes `room` calls, from 1 to `MOST_ROOM`, and those passes, from 1 to `MOST_PASSES`, which know no
     /// call: the one at index k has the number k. `room` times `passes` is at most `MOST_SEATS`. Each pass has `room` cells for its
     /// records. Two passes and more have a place where they make dear products together; where memory for that is refused, they make them
     /// alone. `AllocError` where memory is refused to anything else; then nothing is made.
-    pub fn open(alloc: Global, room: u32, passes: u32) -> Result<(Shared, Vec<Pass>), AllocError>
+    pub fn open(
+        alloc: Global,
+        room: u32,
+        passes: u32,
+    ) -> Result<(Shared<O>, Vec<Pass<O>>), AllocError>
         requires room { (0 < room) × (room ≤ MOST_ROOM) }
         requires passes { (0 < passes) × (passes ≤ MOST_PASSES) }
         requires seats { room * passes ≤ MOST_SEATS }
@@ -106,7 +94,7 @@ impl Shared {
         room: u32,
         passes: u32,
         helped: bool,
-    ) -> Result<(Shared, Vec<Pass>), AllocError>
+    ) -> Result<(Shared<O>, Vec<Pass<O>>), AllocError>
         requires room { (0 < room) × (room ≤ MOST_ROOM) }
         requires passes { (0 < passes) × (passes ≤ MOST_PASSES) }
         requires seats { room * passes ≤ MOST_SEATS }
@@ -119,29 +107,23 @@ impl Shared {
         let (order, seats) = Order::open(alloc, room, passes)?;
         let records = Records::open(alloc, passes, room)?;
         let versions = versions_for(alloc, room)?;
-        let board = board_for(alloc, helped || passes > 1);
-        let opened = passes_of(alloc, &order, seats, room, passes, &versions, &board)?;
+        let bench = O::open(alloc, helped || passes > 1);
+        let opened = passes_of(alloc, &order, seats, room, passes, &versions, &bench)?;
         let shared = Shared {
             order,
             records,
-            board,
+            bench,
         };
         Ok((shared, opened))
     }
 
     /// Makes blocks of the dear products that passes make at the moment, by a thread without a pass, and answers how many.
     pub fn lend_hand(&self) -> u32 {
-        match &self.board {
-            Some(board) => board.help(),
-            None => 0,
-        }
+        self.bench.help()
     }
 
     /// How many blocks of dear products were made so far, by passes that read and by who helps; one that two made counts twice.
     pub fn blocks(&self) -> u64 {
-        match &self.board {
-            Some(board) => board.made(),
-            None => 0,
-        }
+        self.bench.blocks()
     }
 }

@@ -8,7 +8,7 @@ ghost use Rattle.grb_call.specs.Kinds.{enters};
 ghost use Rattle.grb_call.specs.Store.{empty_store};
 ghost use Rattle.grb_call.specs.After.{refused};
 ghost use Rattle.grb_call.specs.History.{after_all, store_of};
-ghost use Rattle.grb_state.specs.Live.{live_store};
+ghost use Rattle.grb_states.specs.Live.{live_store};
 ghost use Rattle.grb_rebuild.specs.Rebuilding.{IsRebuild};
 ghost use Rattle.grb_rebuild.specs.Rebuilt.{AreTaken};
 ghost use Rattle.grb_rebuild.specs.Renumbered.{AreRenumbered};
@@ -21,9 +21,10 @@ use crate::pass::Pass;
 use crate::shared::Shared;
 use grb_call::Call;
 use grb_core::Refusal;
+use grb_objects::Helps;
 use grb_reader::End;
 use grb_rebuild::{NoSuccessor, Rebuild, Renumbered};
-use grb_state::State;
+use grb_states::State;
 use std::alloc::Global;
 
 /// What a refusal of a call of the new store says.
@@ -36,9 +37,9 @@ fn why(refusal: Refusal) -> NoSuccessor
     }
 }
 
-impl Shared {
+impl<O: Helps> Shared<O> {
     /// Looks once at the word after those that the pass knows. `Panic` where another pass has entered one.
-    fn ready_alone(&self, pass: &mut Pass) -> Result<(), Refusal>
+    fn ready_alone(&self, pass: &mut Pass<O>) -> Result<(), Refusal>
         requires pass { IsPassOf self.now pass.old }
         ensures pass { OnOk result (IsPassOf self.now pass.new) }
         ensures number { OnOk result (pass.new.view.number ≡ pass.old.view.number) }
@@ -66,7 +67,7 @@ impl Shared {
 
     /// Enters a call that is not refused after all that the pass knows. `Panic` where another pass has entered one meanwhile, or the record
     /// was not taken. A build is not evaluated before. `OutOfMemory` where memory for its record is refused.
-    fn enter_alone(&self, pass: &mut Pass, call: Call) -> Result<(), Refusal>
+    fn enter_alone(&self, pass: &mut Pass<O>, call: Call) -> Result<(), Refusal>
         requires pass { IsPassOf self.now pass.old }
         requires enters { enters call ≡ true }
         requires accepted { refused (store_of (known pass.old)) call ≡ None }
@@ -89,7 +90,7 @@ impl Shared {
 
     /// Enters calls of which none is refused where it is made. `OutOfMemory` where memory for a record is refused; those before it stay
     /// entered.
-    fn enter_all(&self, pass: &mut Pass, calls: Vec<Call>) -> Result<(), Refusal>
+    fn enter_all(&self, pass: &mut Pass<O>, calls: Vec<Call>) -> Result<(), Refusal>
         requires pass { IsPassOf self.now pass.old }
         requires none { known pass.old ≡ [] }
         requires taken { AreTaken empty_store calls.items }
@@ -110,7 +111,7 @@ impl Shared {
     /// What that took is not counted.
     fn begin_first(
         &self,
-        pass: &mut Pass,
+        pass: &mut Pass<O>,
         calls: Vec<Call>,
         state: State,
     ) -> Result<(), NoSuccessor>
@@ -137,7 +138,7 @@ impl Shared {
 
     /// Lets the pass adopt the first, which knows no less. What that took is not counted. `Panic` where a record is not shown, or the pass
     /// knows more.
-    fn tell(&self, first: &mut Pass, other: &mut Pass) -> Result<(), NoSuccessor>
+    fn tell(&self, first: &mut Pass<O>, other: &mut Pass<O>) -> Result<(), NoSuccessor>
         requires first { IsPassOf self.now first.old }
         requires other { IsPassOf self.now other.old }
         ensures first { first.new ≡ first.old }
@@ -161,7 +162,7 @@ impl Shared {
     }
 
     /// Lets each of these passes, which are those after the first, adopt it.
-    fn tell_all(&self, first: &mut Pass, others: &mut Vec<Pass>) -> Result<(), NoSuccessor>
+    fn tell_all(&self, first: &mut Pass<O>, others: &mut Vec<Pass<O>>) -> Result<(), NoSuccessor>
         requires first { IsPassOf self.now first.old }
         requires opened { (n : ℕ) (p : Knowing) → slice_get others.old.items n ≡ Some p → IsOpenedWith self.now first.old (n + 1) p }
         ensures first { first.new ≡ first.old }
@@ -177,7 +178,7 @@ impl Shared {
     }
 
     /// Has the first of new passes enter the calls that make the store anew, and the others adopt it.
-    fn begin_all(&self, opened: Vec<Pass>, rebuild: Rebuild) -> Result<Vec<Pass>, NoSuccessor>
+    fn begin_all(&self, opened: Vec<Pass<O>>, rebuild: Rebuild) -> Result<Vec<Pass<O>>, NoSuccessor>
         requires some { 0 < length opened.items }
         requires opened { AreNew self.now.order (length opened.items) opened.items (length opened.items) }
         requires ours { All (IsPassOf self.now) opened.items }
@@ -202,7 +203,7 @@ impl Shared {
         rebuild: Rebuild,
         room: u32,
         passes: u32,
-    ) -> Result<(Shared, Vec<Pass>), NoSuccessor>
+    ) -> Result<(Shared<O>, Vec<Pass<O>>), NoSuccessor>
         requires room { 0 < room }
         requires passes { (0 < passes) × (passes ≤ MOST_PASSES) }
         requires rebuild { IsRebuild (room_beside rebuild.state.store room) rebuild.calls.items rebuild.state }
@@ -230,10 +231,10 @@ impl Shared {
     pub fn succeed(
         &self,
         alloc: Global,
-        pass: &mut Pass,
+        pass: &mut Pass<O>,
         room: u32,
         passes: u32,
-    ) -> Result<(Shared, Vec<Pass>), NoSuccessor>
+    ) -> Result<(Shared<O>, Vec<Pass<O>>), NoSuccessor>
         requires pass { IsPassOf self.now pass.old }
         requires room { (0 < room) × (room ≤ MOST_ROOM) }
         requires passes { (0 < passes) × (passes ≤ MOST_PASSES) }
@@ -254,10 +255,10 @@ impl Shared {
     pub fn succeed_live(
         &self,
         alloc: Global,
-        pass: &mut Pass,
+        pass: &mut Pass<O>,
         room: u32,
         passes: u32,
-    ) -> Result<(Shared, Vec<Pass>, Renumbered), NoSuccessor>
+    ) -> Result<(Shared<O>, Vec<Pass<O>>, Renumbered), NoSuccessor>
         requires pass { IsPassOf self.now pass.old }
         requires room { (0 < room) × (room ≤ MOST_ROOM) }
         requires passes { (0 < passes) × (passes ≤ MOST_PASSES) }

@@ -9,7 +9,7 @@ use Rattle.grb_order.specs.declared.step.Look.{Look}
 use Rattle.grb_order.specs.declared.step.Look.TheVariants.{Next, Vacant, Full}
 use Rattle.grb_call.specs.declared.ids.Object.{Object}
 use Rattle.grb_slices.specs.Content.{effective_target}
-use Rattle.grb_slices.specs.Followed.{targets_of}
+use Rattle.grb_slices.specs.Targets.{targets_of}
 use Rattle.grb_slices.specs.Targets.{WalkedCalls}
 use Rattle.grb_slices.proofs.NextTarget.{targets_push}
 use Rattle.grb_reader.proofs.Spelling.{calls_of-append, records_more, records_push, spelled_push, spelled_more, shapes_of-push}

@@ -14,7 +14,7 @@ use Rattle.grb_call.specs.Kinds.{is_build}
 use Rattle.grb_call.specs.Refused.{refused_by_shapes}
 use Rattle.grb_call.specs.After.{refused, refused_build}
 use Rattle.grb_call.specs.History.{calls_of, store_of}
-use Rattle.grb_slices.specs.Followed.{targets_of}
+use Rattle.grb_slices.specs.Targets.{targets_of}
 use Rattle.grb_slices.specs.Targets.{WalkedCalls}
 use Rattle.grb_reader.specs.Explains.{ByStore, ground_of}
 use Rattle.grb_reader.specs.Known.{Knowing, spelled, AreRecords}

@@ -28,7 +28,7 @@ ghost use Rattle.grb_call.specs.Refused.{check_of, refused_by_shapes};
 ghost use Rattle.grb_call.specs.Store.{empty_store, shapes_of};
 ghost use Rattle.grb_call.specs.After.{reply_of};
 ghost use Rattle.grb_call.specs.History.{calls_of, store_of};
-ghost use Rattle.grb_slices.specs.Followed.{targets_of};
+ghost use Rattle.grb_slices.specs.Targets.{targets_of};
 ghost use Rattle.grb_call.specs.Statuses.{status_at};
 ghost use Rattle.grb_reader.specs.Known.{known, new_pass, none_made};
 ghost use Rattle.grb_reader.specs.Learning.{Enters, IsNextUnshown, IsSteady};

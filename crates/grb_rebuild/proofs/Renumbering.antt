@@ -5,7 +5,7 @@ use Rattle.grb_core.specs.Contents.{IsMatrix, IsVector, Matrix, Vector}
 use Rattle.std.specs.Option.{option_map}
 use Rattle.std.proofs.lemmas.List.Elements.{All-filter}
 use Rattle.grb_call.specs.Shapes.{object_at}
-use Rattle.grb_state.specs.Live.{live}
+use Rattle.grb_states.specs.Live.{live}
 use Rattle.grb_rebuild.specs.Renumbered.{live_below, new_number, AddsNone, IsRenumbering, KeepsObjects, KeepsOrder, NewNumbersLoseNoObject}
 
 keeps : {X : Type 0} (xs : List (Option X)) → KeepsObjects xs

@@ -2,8 +2,8 @@
 use Rattle.std.specs.Prelude.{◌≡◌, ◌<◌, ◌+◌, ℕ, List, length}
 use Rattle.grb_call.specs.declared.call.Call.{Call}
 use Rattle.grb_call.specs.Store.{Store, IsStore}
-use Rattle.grb_state.specs.Settled.{AreAllAssembled}
-use Rattle.grb_state.specs.State.{RoomyStore, is_assembled}
+use Rattle.grb_states.specs.Settled.{AreAllAssembled}
+use Rattle.grb_states.specs.State.{RoomyStore, is_assembled}
 use Rattle.grb_rebuild.specs.Rebuilt.{rebuilt}
 use Rattle.grb_rebuild.specs.declared.rebuild.NoSuccessor.{NoSuccessor}
 use Rattle.grb_rebuild.specs.declared.rebuild.NoSuccessor.TheVariants as no

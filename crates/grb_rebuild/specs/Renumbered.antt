@@ -3,7 +3,7 @@ use Rattle.std.specs.Prelude.{◌≡◌, ◌<◌, ℕ, List, length, take, Optio
 use Rattle.std.specs.Option.{option_map}
 use Rattle.grb_call.specs.Shapes.{object_at}
 use Rattle.grb_call.specs.Store.{Store, IsStore}
-use Rattle.grb_state.specs.Live.{live, live_store}
+use Rattle.grb_states.specs.Live.{live, live_store}
 
 -- how many objects are there below this number
 abbrev pub live_below : {X : Type 0} → List (Option X) → ℕ → ℕ

@@ -1,9 +1,9 @@
 //! A store to go on with, and the calls that make it anew.
 ghost use Rattle.std.specs.Prelude.{◌≡◌, ◌<◌, ◌≤◌, ◌+◌, ◌^◌, ◌*◌, length, IfOk, IfErr};
 ghost use Rattle.grb_call.specs.Store.{IsStore};
-ghost use Rattle.grb_state.specs.Live.{live_store};
-ghost use Rattle.grb_state.specs.Settled.{AreAllAssembled};
-ghost use Rattle.grb_state.specs.State.{is_assembled};
+ghost use Rattle.grb_states.specs.Live.{live_store};
+ghost use Rattle.grb_states.specs.Settled.{AreAllAssembled};
+ghost use Rattle.grb_states.specs.State.{is_assembled};
 ghost use Rattle.grb_rebuild.specs.Rebuilt.{rebuilt};
 ghost use Rattle.grb_rebuild.specs.Rebuilding.{IsRebuild, IsNotRebuilt};
 ghost use Rattle.grb_rebuild.specs.Renumbered.{AreRenumbered};
@@ -11,7 +11,7 @@ ghost use Rattle.grb_rebuild.specs.Renumbered.{AreRenumbered};
 use crate::renumbered::Renumbered;
 use crate::store::{calls_for, needed};
 use grb_call::{Call, Object};
-use grb_state::State;
+use grb_states::State;
 use std::alloc::{AllocError, Global};
 
 /// Why there is no successor.

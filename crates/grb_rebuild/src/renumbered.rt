@@ -7,7 +7,7 @@ ghost use Rattle.grb_call.specs.declared.ids.VectorId.{VectorId};
 ghost use Rattle.grb_rebuild.specs.Renumbered.{AreRenumbered, new_number};
 
 use grb_call::{MatrixId, VectorId};
-use grb_state::State;
+use grb_states::State;
 use std::alloc::{AllocError, Global};
 use std::marker::Model;
 

@@ -1,13 +1,13 @@
 //! The calls that make a store anew, of an evaluated store.
 ghost use Rattle.std.specs.Prelude.{◌≡◌, ◌≤◌, ◌+◌, ◌==◌, if◌then◌else◌, length, IfOk};
 ghost use Rattle.grb_call.specs.Store.{IsStore};
-ghost use Rattle.grb_state.specs.Settled.{AreAllAssembled};
-ghost use Rattle.grb_state.specs.State.{is_assembled};
+ghost use Rattle.grb_states.specs.Settled.{AreAllAssembled};
+ghost use Rattle.grb_states.specs.State.{is_assembled};
 ghost use Rattle.grb_rebuild.specs.Rebuilt.{rebuilt};
 
 use crate::objects::{push_matrix, push_vector};
 use grb_call::{Call, MatrixId, Object, VectorId};
-use grb_state::State;
+use grb_states::State;
 use std::alloc::{AllocError, Global};
 
 /// The calls that make the store anew. The builds share the entries, and none is copied. `AllocError` where memory is refused.

@@ -1,4 +1,7 @@
-mod Begins
-mod SameCalls
-mod Taken
-pub mod Valued
+mod Followed
+mod Going
+mod Placed
+mod Places
+mod Prelude
+mod Valued
+mod Walked

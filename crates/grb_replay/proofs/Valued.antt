@@ -9,13 +9,14 @@ use Rattle.grb_call.specs.Store.{Store, empty_store, matrix_at, matrix_shape, sh
 use Rattle.grb_call.proofs.ShapesAfter.{object_at-map}
 use Rattle.grb_call.specs.History.{after_all}
 use Rattle.grb_slices.specs.Content.{MatrixContent, VectorContent, content_at}
-use Rattle.grb_slices.specs.declared.slice.Slice.{Slice}
-use Rattle.grb_slices.specs.SliceFor.{IsSliceFor}
+use Rattle.grb_replay.specs.declared.slice.Slice.{Slice}
+use Rattle.grb_replay.specs.SliceFor.{IsSliceFor}
 use Rattle.grb_slices.specs.Slice.{Step, Wants, entries, sliced}
-use Rattle.grb_slices.specs.Wanted.{is_wanted}
+use Rattle.grb_replay.specs.Wanted.{is_wanted}
 use Rattle.grb_replay.specs.Held.{slice_of, slice_length}
-use Rattle.grb_slices.specs.Followed.{Follows, GoesOn, HasGoneOver, targets_of}
-use Rattle.grb_slices.proofs.Going.{entries_are}
+use Rattle.grb_replay.specs.Followed.{Follows, GoesOn, HasGoneOver}
+use Rattle.grb_slices.specs.Targets.{targets_of}
+use Rattle.grb_replay.proofs.Going.{entries_are}
 
 -- the elements of the slice of one object, which is all that is wanted
 pub slice_is : (o : Object) (s : Store) (cs : List Call) (ts : List (Option Object)) (w : Wants) → ((p : Object) → w p ≡ is_same_object o p) → ts ≡ targets_of (shapes_of s) cs →

@@ -9,10 +9,9 @@ use Rattle.grb_call.specs.Shapes.{is_live}
 use Rattle.grb_call.specs.Status.{is_same_object}
 use Rattle.grb_call.specs.Store.{Store, empty_store, matrix_at, shapes_of, vector_at}
 use Rattle.grb_call.specs.History.{after_all}
-use Rattle.grb_state.specs.State.{RoomyStore}
-use Rattle.grb_slices.specs.Content.{content_at}
-use Rattle.grb_slices.specs.Followed.{HoldsSlice}
-use Rattle.grb_slices.specs.Slice.{Element, sliced}
+use Rattle.grb_states.specs.State.{RoomyStore}
+use Rattle.grb_slices.specs.Content.{Contents, content_at}
+use Rattle.grb_slices.specs.Slice.{Element, evaluated, sliced}
 use Rattle.grb_slices.specs.Steps.{steps_of}
 
 pub record HeldObject : Type 0 where
@@ -27,6 +26,10 @@ slice_of s o cs = (sliced (is_same_object o) (steps_of (shapes_of s) cs)).elemen
 -- how many calls the slice of the object has, after calls on a store; none where the object is not there after them
 abbrev pub slice_length : Store → Object → List Call → ℕ
 slice_length s o cs = if is_live (shapes_of (after_all s cs)) o then length (slice_of s o cs) else 0
+
+-- each object holds what the elements of a slice, and nothing else, make of what the objects held before
+abbrev pub HoldsSlice : Contents → List Element → Store → Type 0
+HoldsSlice before elements part = (o : Object) → content_at part o ≡ evaluated before elements o
 
 -- after calls on a store the object holds what it holds in the part
 abbrev pub HoldsSame : Store → Object → List Call → Store → Type 0

@@ -1,9 +1,11 @@
+pub mod Followed
 pub mod Held
 pub mod Partial
-pub mod Versions
+pub mod SliceFor
+pub mod Wanted
 pub use Rattle.grb_objects.specs.Stored
 pub use Rattle.grb_results.specs.Kept
 pub use Rattle.grb_results.specs.Results
 pub use Rattle.grb_slices.specs.Targets
-pub use Rattle.grb_state.specs.Settled
-pub use Rattle.grb_state.specs.State
+pub use Rattle.grb_states.specs.Settled
+pub use Rattle.grb_states.specs.State

@@ -1,14 +1,16 @@
--- believed: What a contract sees of a store in which the calls of a slice alone were made (own).
+-- inside: no public contract names it. A store in which the calls of a slice alone were made (own).
 use Rattle.std.specs.Prelude.{◌≡◌, ℕ, List, drop, Option}
 use Rattle.grb_call.specs.declared.call.Call.{Call}
 use Rattle.grb_call.specs.declared.ids.Object.{Object}
 use Rattle.grb_call.specs.Store.{Store, shapes_of}
 use Rattle.grb_call.specs.History.{after_all}
-use Rattle.grb_state.specs.State.{RoomyStore}
+use Rattle.grb_states.specs.State.{RoomyStore}
 use Rattle.grb_slices.specs.Content.{content_at}
-use Rattle.grb_slices.specs.Followed.{Follows, HoldsSlice, targets_of}
+use Rattle.grb_replay.specs.Followed.{Follows}
+use Rattle.grb_replay.specs.Held.{HoldsSlice}
+use Rattle.grb_slices.specs.Targets.{targets_of}
 use Rattle.grb_slices.specs.Slice.{Wants, entries, sliced}
-use Rattle.grb_slices.specs.Wanted.{Marks}
+use Rattle.grb_replay.specs.Wanted.{Marks}
 
 -- a partial store: a state, and the objects that hold in it what they hold in the store that it is a part of
 pub record PartialStoreView : Type 0 where

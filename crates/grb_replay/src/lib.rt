@@ -1,20 +1,19 @@
-//! What calls leave, evaluated by whoever needs it or taken from others: values and versions.
+//! What calls leave, evaluated by themselves.
 //!
-//! `value_of` holds what one object holds after calls on any store, from only the calls that it depends on: a `PartialStore` is a state in
-//! which the calls of the slice of some objects were made, and no other. `Versions` has editions that passes may share, each of them calls
-//! with results of these: one is found by its own calls and never by their number. `Targets` and `LentCalls` come from `grb_slices`, `State`
-//! and `replay` from `grb_state`. Nothing here knows of passes or of an order: the caller brings the calls.
+//! `value_of` holds what one object holds after calls on any store, from only the calls that it depends on: a walk back from the last finds
+//! them, and they are made on a state, and no other. `Versions` comes from `grb_editions`, `Targets` and `LentCalls` from `grb_slices`, `State`
+//! from `grb_states`, and `replay` from `grb_state`. Nothing here knows of passes or of an order: the caller brings the calls. No crate of the
+//! product stands on it.
 #![tactic(auto)]
 
-mod edition;
 mod making;
 mod partial_store;
-mod slots;
+mod slice;
 mod value;
-mod versions;
+mod wanted;
 
+pub use grb_editions::Versions;
 pub use grb_slices::{LentCalls, Targets};
-pub use grb_state::{State, replay};
-pub use partial_store::PartialStore;
+pub use grb_state::replay;
+pub use grb_states::State;
 pub use value::{Held, value_of};
-pub use versions::Versions;

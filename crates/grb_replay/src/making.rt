@@ -4,11 +4,12 @@ ghost use Rattle.grb_call.specs.declared.call.Call.{Call};
 ghost use Rattle.grb_call.specs.Store.{Store, shapes_of};
 ghost use Rattle.grb_slices.specs.Content.{effective_target};
 ghost use Rattle.grb_slices.specs.Slice.{Wants};
-ghost use Rattle.grb_slices.specs.Followed.{GoesOn, HasGoneOver, HasPlaceIn, LacksPlaceIn, part_after};
+ghost use Rattle.grb_replay.specs.Followed.{GoesOn, HasGoneOver, HasPlaceIn, LacksPlaceIn, part_after};
 
 use grb_call::Object;
 use grb_slices::CallList;
-use grb_state::State;
+use grb_state::apply;
+use grb_states::State;
 use std::alloc::AllocError;
 
 /// Whether the state has a place for the object: it was made, whether or not it was freed.
@@ -52,7 +53,7 @@ fn make_one<S, C: CallList<S>>(
     ensures room { OnOk result (state.old.room ≤ state.new.room + 1) }
 {
     if is_chosen {
-        return state.apply(calls.call_at(source, at));
+        return apply(state, calls.call_at(source, at));
     }
     let Some(object) = target else {
         return Ok(());

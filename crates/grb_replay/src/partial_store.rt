@@ -2,24 +2,26 @@
 ghost use Rattle.std.specs.Prelude.{◌≡◌, ◌+◌, ◌<◌, ◌≤◌, ◌^◌, true, length, IfOk, OnOk};
 ghost use Rattle.std.specs.Option.{option_map, option_map_or};
 ghost use Rattle.grb_call.specs.Store.{empty_store, matrix_at, vector_at};
-ghost use Rattle.grb_state.specs.Settled.{AreAllAssembled};
-ghost use Rattle.grb_state.specs.State.{is_assembled, is_assembled_in};
-ghost use Rattle.grb_slices.specs.SliceFor.{IsSliceFrom};
-ghost use Rattle.grb_slices.specs.Wanted.{is_wanted};
+ghost use Rattle.grb_states.specs.Settled.{AreAllAssembled};
+ghost use Rattle.grb_states.specs.State.{is_assembled, is_assembled_in};
+ghost use Rattle.grb_replay.specs.SliceFor.{IsSliceFrom};
+ghost use Rattle.grb_replay.specs.Wanted.{is_wanted};
 ghost use Rattle.grb_replay.specs.Partial.{AreTargetsFrom, FollowsFrom, HoldsSliceFrom};
 
 use crate::making::make_chosen;
+use crate::slice::Slice;
+use crate::wanted::Wanted;
 use grb_call::{MatrixId, Object, VectorId};
-use grb_slices::{CallList, Slice, Wanted};
+use grb_slices::CallList;
 use grb_sparse::{SparseMatrix, SparseVector};
-use grb_state::State;
+use grb_states::State;
 use std::alloc::{AllocError, Global};
 use std::marker::Model;
 
 /// Some objects of a store after a list of calls, which were made by the calls that they depend on alone; what the other objects hold then
 /// is not kept.
 #[derive(Drop)]
-pub struct PartialStore {
+pub(crate) struct PartialStore {
     state: State,
     // The objects that hold in the state what they hold in the store.
     objects: Wanted,
@@ -35,7 +37,7 @@ impl Model for PartialStore {
 
 impl PartialStore {
     /// No objects. Takes no memory.
-    pub fn empty(alloc: Global) -> PartialStore
+    pub(crate) fn empty(alloc: Global) -> PartialStore
         ensures store { result.state.store ≡ empty_store }
         ensures assembled { AreAllAssembled (is_assembled result.state.matrices result.state.vectors) }
     {
@@ -48,7 +50,7 @@ impl PartialStore {
     /// The wanted objects after the calls from a place on, which come on the store, by only the calls of the slice, with room for so many
     /// calls on the store: every other object is as it was before them, and one that would have been made is not there. No entry is copied
     /// but of objects that these calls change. `AllocError` where memory is refused; the store is as it was (own).
-    pub fn of<S, C: CallList<S>>(
+    pub(crate) fn of<S, C: CallList<S>>(
         whole: &State,
         calls: &mut C,
         source: &S,
@@ -82,7 +84,7 @@ impl PartialStore {
 
     /// Does the changes that wait in the object, if it is there. `AllocError` where memory is refused; the entries are as before in any
     /// case.
-    pub fn complete(&mut self, object: Object) -> Result<(), AllocError>
+    pub(crate) fn complete(&mut self, object: Object) -> Result<(), AllocError>
         ensures objects { self.new.objects ≡ self.old.objects }
         ensures store { self.new.state.store ≡ self.old.state.store }
         ensures room { self.new.state.room ≡ self.old.state.room }
@@ -92,7 +94,7 @@ impl PartialStore {
     }
 
     /// The matrix, as far as it is held. Takes no memory.
-    pub fn matrix(&self, a: MatrixId) -> Option<&SparseMatrix>
+    pub(crate) fn matrix(&self, a: MatrixId) -> Option<&SparseMatrix>
         ensures stored { option_map (λ matrix. matrix.now.matrix) result ≡ matrix_at self.now.state.store a }
         ensures assembled { option_map_or (λ matrix. matrix.now.assembled) result true ≡ is_assembled_in self.now.state (Object.Matrix a) }
     {
@@ -100,7 +102,7 @@ impl PartialStore {
     }
 
     /// The vector, as far as it is held. Takes no memory.
-    pub fn vector(&self, v: VectorId) -> Option<&SparseVector>
+    pub(crate) fn vector(&self, v: VectorId) -> Option<&SparseVector>
         ensures stored { option_map (λ vector. vector.now.vector) result ≡ vector_at self.now.state.store v }
         ensures assembled { option_map_or (λ vector. vector.now.assembled) result true ≡ is_assembled_in self.now.state (Object.Vector v) }
     {

@@ -4,10 +4,12 @@ ghost use Rattle.std.specs.Option.{option_map};
 ghost use Rattle.grb_replay.specs.Held.{HoldsSame, IsEmptyWhereGone, IsMadeBySlice, held_matrix, held_vector, slice_length};
 
 use crate::partial_store::PartialStore;
+use crate::slice::slice_for;
+use crate::wanted::Wanted;
 use grb_call::{Call, Object};
-use grb_slices::{LentCalls, Targets, Wanted, slice_for};
+use grb_slices::{LentCalls, Targets};
 use grb_sparse::{SparseMatrix, SparseVector};
-use grb_state::State;
+use grb_states::State;
 use std::alloc::{AllocError, Global};
 use std::marker::Model;
 
@@ -21,7 +23,7 @@ pub struct Held {
 
 impl Model for Held {
     ghost use Rattle.std.specs.Prelude.{◌≡◌, true};
-    ghost use Rattle.grb_state.specs.State.{is_assembled};
+    ghost use Rattle.grb_states.specs.State.{is_assembled};
     ghost use Rattle.grb_replay.specs.Held.{HeldObject};
 
     ghost Value = { HeldObject };

@@ -8,10 +8,10 @@ ghost use Rattle.grb_call.specs.declared.ids.Object.{Object};
 ghost use Rattle.grb_call.specs.After.{reply_of};
 ghost use Rattle.grb_call.specs.History.{after_all};
 ghost use Rattle.grb_call.specs.Store.{empty_store};
-ghost use Rattle.grb_state.specs.Settled.{settles};
+ghost use Rattle.grb_states.specs.Settled.{settles};
 ghost use Rattle.grb_objects.specs.declared.shared_content.SharedContent.{SharedContent};
 ghost use Rattle.grb_objects.specs.SharedContent.{is_assembled_content};
-ghost use Rattle.grb_state.specs.StoredIn.{IsMatrixOf, IsVectorOf};
+ghost use Rattle.grb_states.specs.StoredIn.{IsMatrixOf, IsVectorOf};
 ghost use Rattle.grb_results.specs.Kept.{IsKept, IsReady, IsSameBut, IsTableOf, MayReply, ReadsObject};
 ghost use Rattle.grb_results.specs.Results.{IsTable};
 ghost use Rattle.grb_results.specs.Settling.{IsSettledAt};
@@ -19,9 +19,8 @@ ghost use Rattle.grb_results.specs.Value.{content_of};
 
 use crate::table::Table;
 use grb_call::{Call, MatrixId, Object, Reply, VectorId};
-use grb_objects::SharedContent;
+use grb_objects::{Operates, SharedContent};
 use grb_sparse::{SparseMatrix, SparseVector};
-use grb_state::reply_from;
 use std::alloc::{AllocError, Global};
 use std::sync::Arc;
 
@@ -145,14 +144,14 @@ impl Table {
         }
     }
 
-    /// The reply to a call that only reads the object, after all calls that were learnt. Takes no memory.
-    pub fn reply(&self, object: Object, call: &Call) -> Reply
+    /// The reply to a call that only reads the object, after all calls that were learnt, as the bench reads it. Takes no memory.
+    pub fn reply<O: Operates>(&self, bench: &O, object: Object, call: &Call) -> Reply
         requires kept { IsKept self.now object }
         requires may { MayReply self.now object call.now }
         ensures { (cs : List Call) → IsTableOf cs self.now → ReadsObject (after_all empty_store cs) object call.now → result ≡ reply_of (after_all empty_store cs) call.now }
     {
         match self.last(object) {
-            Some(content) => reply_from(content, call),
+            Some(content) => bench.reply_from(content, call),
             None => unreachable!(),
         }
     }

@@ -13,9 +13,8 @@ use crate::made::{blank, clear, diagonal_of, hold, new_object, operated};
 use crate::table::Table;
 use grb_call::{Call, Class, Diagonal, Object, VectorId, objects_read};
 use grb_links::{forgets, is_clear, is_dup};
-use grb_objects::SharedContent;
+use grb_objects::{Operates, SharedContent};
 use grb_slices::CallList;
-use grb_state::Bench;
 use std::alloc::AllocError;
 
 /// The object at this place of the list.
@@ -62,9 +61,9 @@ impl Table {
     }
 
     /// Puts on the bench, next to others, what the call at this place needs. `AllocError` where memory is refused.
-    fn hold_read<S, C: CallList<S>>(
+    fn hold_read<S, C: CallList<S>, O: Operates>(
         &self,
-        bench: &mut Bench,
+        bench: &mut O,
         calls: &C,
         source: &S,
         read: &[Object],
@@ -74,7 +73,7 @@ impl Table {
         requires near { at < length self.now.results.items }
         requires read { (call : Call) → slice_get (C.calls source.now calls.now) at ≡ Some call → read.now ≡ objects_needed call }
         requires few { length read.now ≤ 4 }
-        ensures { OnOk result (HoldsAlso (contents_after (C.calls source.now calls.now) at) read.now bench.old bench.new) }
+        ensures { OnOk result (HoldsAlso (contents_after (C.calls source.now calls.now) at) read.now (O.on bench.old) (O.on bench.new)) }
     {
         let links = self.learnt.node_at(at as usize).links;
         'places: for place in 0..read.len() {
@@ -91,9 +90,9 @@ impl Table {
     }
 
     /// What the operation at this place leaves of its output, where all that it reads is kept. `AllocError` where memory is refused.
-    fn operated_on<S, C: CallList<S>>(
+    fn operated_on<S, C: CallList<S>, O: Operates>(
         &self,
-        bench: &mut Bench,
+        bench: &mut O,
         calls: &C,
         source: &S,
         call: &Call,
@@ -115,9 +114,9 @@ impl Table {
     }
 
     /// What the operation at this place leaves of its output; nothing is on the bench then. `AllocError` where memory is refused.
-    fn operated_at<S, C: CallList<S>>(
+    fn operated_at<S, C: CallList<S>, O: Operates>(
         &self,
-        bench: &mut Bench,
+        bench: &mut O,
         calls: &C,
         source: &S,
         call: &Call,
@@ -139,9 +138,9 @@ impl Table {
 
     /// Puts on the bench, next to others, the inputs of the call at this place, which needs nothing else. `AllocError` where memory is
     /// refused.
-    fn hold_inputs<S, C: CallList<S>>(
+    fn hold_inputs<S, C: CallList<S>, O: Operates>(
         &self,
-        bench: &mut Bench,
+        bench: &mut O,
         calls: &C,
         source: &S,
         call: &Call,
@@ -152,7 +151,7 @@ impl Table {
         requires call { slice_get (C.calls source.now calls.now) at ≡ Some call.now }
         requires forgets { forgets call.now ≡ true }
         requires operates { class_of call.now ≡ Class.Operates }
-        ensures { OnOk result (HoldsAlso (contents_after (C.calls source.now calls.now) at) (inputs_of call.now) bench.old bench.new) }
+        ensures { OnOk result (HoldsAlso (contents_after (C.calls source.now calls.now) at) (inputs_of call.now) (O.on bench.old) (O.on bench.new)) }
     {
         match call.operation() {
             Some(operation) => {
@@ -195,9 +194,9 @@ impl Table {
 
     /// What the operation at this place leaves of its output, which is put on the bench with nothing stored; it needs its inputs alone.
     /// `AllocError` where memory is refused.
-    fn overwritten_on<S, C: CallList<S>>(
+    fn overwritten_on<S, C: CallList<S>, O: Operates>(
         &self,
-        bench: &mut Bench,
+        bench: &mut O,
         calls: &C,
         source: &S,
         call: &Call,
@@ -224,9 +223,9 @@ impl Table {
 
     /// What the operation at this place leaves of its output, of which it needs nothing; nothing is on the bench then. `AllocError` where
     /// memory is refused.
-    fn overwritten_at<S, C: CallList<S>>(
+    fn overwritten_at<S, C: CallList<S>, O: Operates>(
         &self,
-        bench: &mut Bench,
+        bench: &mut O,
         calls: &C,
         source: &S,
         call: &Call,
@@ -267,8 +266,9 @@ impl Table {
     }
 
     /// What the call at this place makes, which puts a vector on a diagonal. `AllocError` where memory is refused.
-    fn diagonal_at<S, C: CallList<S>>(
+    fn diagonal_at<S, C: CallList<S>, O: Operates>(
         &self,
+        bench: &O,
         calls: &C,
         source: &S,
         v: VectorId,
@@ -285,16 +285,16 @@ impl Table {
             return Ok(None);
         };
         match self.shared(before)? {
-            Some(value) => diagonal_of(self.alloc, diagonal, value),
+            Some(value) => diagonal_of(bench, self.alloc, diagonal, value),
             None => Ok(None),
         }
     }
 
     /// What the call at this place makes or computes, where all that it reads is kept; none of a call that ends its object or only reads.
     /// `AllocError` where memory is refused.
-    pub(crate) fn computed_at<S, C: CallList<S>>(
+    pub(crate) fn computed_at<S, C: CallList<S>, O: Operates>(
         &mut self,
-        bench: &mut Bench,
+        bench: &mut O,
         calls: &C,
         source: &S,
         call: &Call,
@@ -324,7 +324,7 @@ impl Table {
                 match call {
                     Call::Diag { v, diagonal } => {
                         self.assemble_read(at)?;
-                        self.diagonal_at(calls, source, *v, *diagonal, at)
+                        self.diagonal_at(bench, calls, source, *v, *diagonal, at)
                     }
                     _ => new_object(self.alloc, call),
                 }

@@ -14,9 +14,8 @@ use crate::made::{clear, is_edit};
 use crate::table::Table;
 use grb_call::{Call, Object};
 use grb_links::work_of;
-use grb_objects::SharedContent;
+use grb_objects::{Operates, SharedContent};
 use grb_slices::CallList;
-use grb_state::Bench;
 use std::alloc::AllocError;
 
 impl Table {
@@ -40,9 +39,9 @@ impl Table {
 
     /// Makes this call, where all that it reads is kept, and the edits on top of the stack that go on with it. `AllocError` where memory is
     /// refused; what is kept stays so.
-    fn make_call<S, C: CallList<S>>(
+    fn make_call<S, C: CallList<S>, O: Operates>(
         &mut self,
-        bench: &mut Bench,
+        bench: &mut O,
         stack: &mut Vec<u32>,
         calls: &mut C,
         source: &S,
@@ -75,9 +74,9 @@ impl Table {
     }
 
     /// Makes the call at this place, where all that it reads is kept, as [`Table::make_call`] does.
-    fn make_at<S, C: CallList<S>>(
+    fn make_at<S, C: CallList<S>, O: Operates>(
         &mut self,
-        bench: &mut Bench,
+        bench: &mut O,
         stack: &mut Vec<u32>,
         calls: &mut C,
         source: &S,
@@ -100,9 +99,9 @@ impl Table {
 
     /// Makes the call at this place, or one that it waits for, and the edits that go on with that. `AllocError` where memory is refused;
     /// what is kept stays so.
-    fn step<S, C: CallList<S>>(
+    fn step<S, C: CallList<S>, O: Operates>(
         &mut self,
-        bench: &mut Bench,
+        bench: &mut O,
         stack: &mut Vec<u32>,
         calls: &mut C,
         source: &S,
@@ -128,9 +127,9 @@ impl Table {
 
     /// Makes the call at this place and all that it depends on and whose results are not kept. `AllocError` where memory is refused; what
     /// is kept stays so.
-    fn evaluate<S, C: CallList<S>>(
+    fn evaluate<S, C: CallList<S>, O: Operates>(
         &mut self,
-        bench: &mut Bench,
+        bench: &mut O,
         stack: &mut Vec<u32>,
         calls: &mut C,
         source: &S,
@@ -159,9 +158,9 @@ impl Table {
 
     /// Makes what the object holds after these calls, which were all learnt, where it is not kept. Only calls are made that it depends on,
     /// each once as long as its result is kept. `AllocError` where memory is refused; what was made stays so.
-    pub fn make<S, C: CallList<S>>(
+    pub fn make<S, C: CallList<S>, O: Operates>(
         &mut self,
-        bench: &mut Bench,
+        bench: &mut O,
         stack: &mut Vec<u32>,
         calls: &mut C,
         source: &S,
@@ -192,9 +191,9 @@ impl Table {
 
     /// What the object holds after these calls, which were all learnt; none where it is not there. Only calls are made that it depends on,
     /// each once as long as its result is kept. `AllocError` where memory is refused; what was made stays so.
-    pub fn result_of<S, C: CallList<S>>(
+    pub fn result_of<S, C: CallList<S>, O: Operates>(
         &mut self,
-        bench: &mut Bench,
+        bench: &mut O,
         stack: &mut Vec<u32>,
         calls: &mut C,
         source: &S,

@@ -18,10 +18,8 @@ ghost use Rattle.grb_results.specs.Value.{IsEdit, content_of};
 use grb_call::{Call, Class, Diagonal, Object};
 use grb_core::{diagonal_size, is_dimension};
 use grb_links::{Shape, forgets};
-use grb_maps::diagonal_matrix;
-use grb_objects::SharedContent;
+use grb_objects::{Operates, SharedContent};
 use grb_sparse::{SparseMatrix, SparseVector};
-use grb_state::Bench;
 use std::alloc::{AllocError, Global};
 
 /// Whether the call ends an object.
@@ -79,7 +77,8 @@ pub(crate) fn new_object(alloc: Global, call: &Call) -> Result<Option<SharedCont
 
 /// What a call makes that puts the vector of this content on a diagonal; none where that is no vector, or where no matrix can have so many
 /// rows. `AllocError` where memory is refused.
-pub(crate) fn diagonal_of(
+pub(crate) fn diagonal_of<O: Operates>(
+    bench: &O,
     alloc: Global,
     diagonal: Diagonal,
     value: SharedContent,
@@ -94,33 +93,36 @@ pub(crate) fn diagonal_of(
     if !is_dimension(diagonal_size(diagonal, v.dims())) {
         return Ok(None);
     }
-    let matrix = diagonal_matrix(alloc, diagonal, v)?;
+    let matrix = bench.diagonal(alloc, diagonal, v)?;
     Ok(Some(SharedContent::of_matrix(alloc, matrix)?))
 }
 
 /// Puts what an object holds on the bench, next to others. `AllocError` where memory is refused.
-pub(crate) fn hold(
-    bench: &mut Bench,
+pub(crate) fn hold<O: Operates>(
+    bench: &mut O,
     object: Object,
     value: SharedContent,
 ) -> Result<(), AllocError>
-    ensures { OnOk result ((s : Store) (os : List Object) → AgreeOn (is_among os) (content_at bench.old) (content_at s) → content_at s object ≡ Some (content_of value) → AgreeOn (is_among (os ++ object ∷ [])) (content_at bench.new) (content_at s)) }
+    ensures { OnOk result ((s : Store) (os : List Object) → AgreeOn (is_among os) (content_at (O.on bench.old)) (content_at s) → content_at s object ≡ Some (content_of value) → AgreeOn (is_among (os ++ object ∷ [])) (content_at (O.on bench.new)) (content_at s)) }
 {
     bench.hold(object, value)
 }
 
 /// Takes these objects off the bench.
-pub(crate) fn clear(bench: &mut Bench, read: &[Object]) {
+pub(crate) fn clear<O: Operates>(bench: &mut O, read: &[Object]) {
     for object in read {
         let _dropped = bench.take(*object);
     }
 }
 
 /// What the operation leaves of its output, made of what stands on the bench. `AllocError` where memory is refused.
-pub(crate) fn operated(bench: &mut Bench, call: &Call) -> Result<Option<SharedContent>, AllocError>
+pub(crate) fn operated<O: Operates>(
+    bench: &mut O,
+    call: &Call,
+) -> Result<Option<SharedContent>, AllocError>
     requires operates { class_of call.now ≡ Class.Operates }
-    requires accepted { refused_by_shapes (shapes_of bench.old) call.now ≡ None }
-    ensures { IfOk result (λ made. (r : Contents) → AgreeOn (is_among (objects_read call.now)) (content_at bench.old) r → option_map content_of made ≡ outcome r call.now) }
+    requires accepted { refused_by_shapes (shapes_of (O.on bench.old)) call.now ≡ None }
+    ensures { IfOk result (λ made. (r : Contents) → AgreeOn (is_among (objects_read call.now)) (content_at (O.on bench.old)) r → option_map content_of made ≡ outcome r call.now) }
 {
     bench.operate(call)?;
     match call.output() {

@@ -6,7 +6,7 @@ ghost use Rattle.grb_call.specs.declared.ids.Object.{Object};
 ghost use Rattle.grb_call.specs.History.{after_all};
 ghost use Rattle.grb_call.specs.Store.{empty_store, matrix_at, vector_at};
 ghost use Rattle.grb_objects.specs.Stored.{stored_matrix, stored_vector};
-ghost use Rattle.grb_state.specs.State.{AreAllAssembledIn};
+ghost use Rattle.grb_states.specs.State.{AreAllAssembledIn};
 ghost use Rattle.grb_results.specs.Exchanged.{AreMatricesOf, AreVectorsOf, Begins, IsLastKept, OfEach};
 ghost use Rattle.grb_results.specs.Kept.{AreReady, IsReady, IsReadyIfThere, IsSameBut, IsTableOf, KeepsAll};
 ghost use Rattle.grb_results.specs.Results.{IsTable};
@@ -15,7 +15,7 @@ use crate::table::Table;
 use grb_call::{MatrixId, Object, VectorId};
 use grb_objects::{SharedContent, SharedObject};
 use grb_sparse::{SparseMatrix, SparseVector};
-use grb_state::State;
+use grb_states::State;
 use std::alloc::AllocError;
 
 impl Table {

@@ -10,8 +10,8 @@ ghost use Rattle.grb_results.specs.Results.{IsTable};
 
 use crate::table::Table;
 use grb_call::{Call, MatrixId, Object, VectorId};
+use grb_objects::Operates;
 use grb_slices::CallList;
-use grb_state::Bench;
 use std::alloc::AllocError;
 
 impl Table {
@@ -69,9 +69,9 @@ impl Table {
     }
 
     /// Makes what the object holds, which is there, and has the changes done that wait in it. `AllocError` where memory is refused.
-    fn make_ready<S, C: CallList<S>>(
+    fn make_ready<S, C: CallList<S>, O: Operates>(
         &mut self,
-        bench: &mut Bench,
+        bench: &mut O,
         stack: &mut Vec<u32>,
         calls: &mut C,
         source: &S,
@@ -89,9 +89,9 @@ impl Table {
     }
 
     /// Makes what each object holds that is there, and has all changes done. `AllocError` where memory is refused.
-    fn make_all<S, C: CallList<S>>(
+    fn make_all<S, C: CallList<S>, O: Operates>(
         &mut self,
-        bench: &mut Bench,
+        bench: &mut O,
         stack: &mut Vec<u32>,
         calls: &mut C,
         source: &S,
@@ -118,9 +118,9 @@ impl Table {
     /// lie ready. `AllocError` where memory is refused; what was made stays so.
     ///
     /// Source: GraphBLAS C API 2.0, `GrB_MATERIALIZE`; that it is for all objects is own.
-    pub fn settle_all<S, C: CallList<S>>(
+    pub fn settle_all<S, C: CallList<S>, O: Operates>(
         &mut self,
-        bench: &mut Bench,
+        bench: &mut O,
         stack: &mut Vec<u32>,
         calls: &mut C,
         source: &S,

@@ -1,16 +1,11 @@
 pub mod EffectiveTarget
 pub mod Effects
-pub mod Followed
-pub mod Going
+pub mod Lists
 pub mod Live
-pub mod Marks
 pub mod NextTarget
 pub mod Outputs
-pub mod Placed
-pub mod Places
 pub mod Prelude
 pub mod Refusals
 pub mod Sliced
 pub mod Stays
-pub mod Walked
 pub mod Wants

@@ -1,7 +1,7 @@
 -- One more target, by one walk over shapes.
 use Rattle.std.proofs.Common.{◌≡◌, ℕ, ◌+◌, ◌-◌, ◌<◌, List, [], ◌∷◌, ◌++◌, refl, sym, ap, ◌∙◌, length, drop, take, get_or, Option, arith}
 use Rattle.grb_slices.proofs.Prelude.{get_or-drop, length_push, take_more, length-drop, Call, Object, ObjectShapes, shapes_after, Store, shapes_of, after, after_all, shapes_of-after, effective_target, targets_of}
-use Rattle.grb_slices.proofs.Going.{take_all}
+use Rattle.grb_slices.proofs.Lists.{take_all}
 use Rattle.grb_slices.specs.Targets.{AreTargetsOf, WalkedCalls}
 
 pub targets_push : (s : Store) (cs : List Call) (c : Call) → targets_of (shapes_of s) (cs ++ c ∷ []) ≡ targets_of (shapes_of s) cs ++ effective_target (shapes_of (after_all s cs)) c ∷ []

@@ -15,10 +15,9 @@ pub use Rattle.grb_call.specs.declared.ids.VectorId.{VectorId}
 pub use Rattle.grb_core.specs.declared.refusal.Refusal.{Refusal}
 pub use Rattle.grb_core.specs.declared.refusal.Refusal.TheVariants.{DimensionMismatch, DomainMismatch, IndexOutOfBounds, InvalidIndex, InvalidValue, OutputNotEmpty, UninitializedObject}
 pub use Rattle.grb_slices.specs.Content.{Content, Contents, MatrixContent, VectorContent, can_fill_matrix, can_fill_vector, content_at, content_made, effective_target, objects_held, filled_matrix, filled_vector, matrix_held, vector_held, outcome, output_made, target_of}
-pub use Rattle.grb_slices.specs.Followed.{Follows, GoesOn, HasGoneOver, HasPlaceIn, LacksPlaceIn, part_after, targets_of}
 pub use Rattle.grb_slices.specs.Slice.{Element, Entry, Known, Make, Origin, Recall, Sliced, Step, Wants, choices, chosen, entries, evaluated, is_among, needs, result_of, sliced, sliced_step, wants_before, with_content}
 pub use Rattle.grb_slices.specs.Steps.{AgreeOn, AreSteps, steps_of}
-pub use Rattle.grb_slices.specs.Wanted.{HasPlace, HavePlaces, KeepsPlaces, LacksMark, LacksOne, Marks, is_chosen, is_wanted, marked, wants_before_entry}
+pub use Rattle.grb_slices.specs.Targets.{targets_of}
 pub use Rattle.std.proofs.lemmas.List.{get_or-drop, length_push, take_more}
 pub use Rattle.std.specs.List.{list_all, list_any}
 pub use Rattle.std.specs.Option.{option_map_or, option_or}

@@ -1,12 +1,18 @@
 -- believed: What a contract sees of a walk over calls by their shapes (own): the targets of the calls walked over, and the shapes
 -- after them.
-use Rattle.std.specs.Prelude.{◌≡◌, ◌≤◌, List, drop, length, take, Option}
+use Rattle.std.specs.Prelude.{◌≡◌, ◌≤◌, List, [], ◌∷◌, drop, length, take, Option}
 use Rattle.grb_call.specs.declared.call.Call.{Call}
 use Rattle.grb_call.specs.declared.ids.Object.{Object}
-use Rattle.grb_call.specs.Shapes.{RoomyShapes}
+use Rattle.grb_call.specs.Refused.{shapes_after}
+use Rattle.grb_call.specs.Shapes.{ObjectShapes, RoomyShapes}
 use Rattle.grb_call.specs.Store.{Store, shapes_of}
 use Rattle.grb_call.specs.History.{after_all}
-use Rattle.grb_slices.specs.Followed.{targets_of}
+use Rattle.grb_slices.specs.Content.{effective_target}
+
+-- the targets of the calls, each at its place, by one walk over shapes
+abbrev pub targets_of : ObjectShapes → List Call → List (Option Object)
+targets_of s [] = []
+targets_of s (c ∷ cs) = effective_target s c ∷ targets_of (shapes_after s c) cs
 
 pub record WalkedCalls : Type 0 where
   pub targets : List (Option Object)

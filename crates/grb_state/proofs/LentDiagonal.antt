@@ -17,7 +17,7 @@ use Rattle.grb_call.specs.After.{refused}
 use Rattle.grb_call.proofs.ShapesAfter.{object_at-map}
 use Rattle.grb_call.proofs.Passed.{has_passed}
 use Rattle.grb_objects.specs.Stored.{stored, stored_matrices, stored_matrix, stored_vector, stored_vectors}
-use Rattle.grb_state.proofs.Lent.{held, at_vector}
+use Rattle.grb_operations.proofs.Lent.{held, at_vector}
 
 -- the vectors as they were, and as they are where one was assembled
 module _ (ms : List (Option SparseMatrixView)) (was now : List (Option SparseVectorView)) (same : stored_vectors now ≡ stored_vectors was)

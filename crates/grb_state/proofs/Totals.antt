@@ -15,11 +15,11 @@ use Rattle.grb_call.specs.Shapes.{object_at}
 use Rattle.grb_call.specs.Store.{matrix_entries, vector_entries, matrix_shape, vector_shape}
 use Rattle.grb_call.specs.After.{refused}
 use Rattle.grb_call.proofs.Passed.{has_passed, matrix_given, vector_given}
-use Rattle.grb_state.specs.Operation.{IsAssembledMatrix, IsAssembledVector}
-use Rattle.grb_state.specs.Settled.{AreAllAssembled}
+use Rattle.grb_states.specs.Operation.{IsAssembledMatrix, IsAssembledVector}
+use Rattle.grb_states.specs.Settled.{AreAllAssembled}
 use Rattle.grb_objects.specs.Stored.{stored, stored_matrix, stored_vector}
-use Rattle.grb_state.specs.State.{is_assembled}
-use Rattle.grb_state.proofs.Lent.{held, at_matrix, at_vector, matrix_entries-at, vector_entries-at}
+use Rattle.grb_states.specs.State.{is_assembled}
+use Rattle.grb_operations.proofs.Lent.{held, at_matrix, at_vector, matrix_entries-at, vector_entries-at}
 
 assembled-matrix : (o : Option SparseMatrixView) → IfSome o (λ m. m.assembled ≡ true) → option_map_or (λ m. m.assembled) o true ≡ true
 assembled-matrix None h = refl

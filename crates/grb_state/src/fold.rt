@@ -1,11 +1,12 @@
 //! The store that calls leave of another: they are made one after another.
 ghost use Rattle.std.specs.Prelude.{◌≡◌, ◌+◌, ◌<◌, ◌^◌, length, map, IfOk};
 ghost use Rattle.grb_call.specs.History.{after_all};
-ghost use Rattle.grb_state.specs.Settled.{AreAllAssembled};
-ghost use Rattle.grb_state.specs.State.{is_assembled};
+ghost use Rattle.grb_states.specs.Settled.{AreAllAssembled};
+ghost use Rattle.grb_states.specs.State.{is_assembled};
 
-use crate::state::State;
+use crate::applying::apply;
 use grb_call::Call;
+use grb_states::State;
 use std::alloc::AllocError;
 
 /// The store that these calls leave of the state, which stays as it is: each of them is made, one after another, and one that is refused at
@@ -21,7 +22,7 @@ pub fn replay(state: &State, calls: &[&Call]) -> Result<State, AllocError>
 {
     let mut replayed = state.try_clone(calls.len() as u32)?;
     'calls: for at in 0..calls.len() {
-        replayed.apply(calls[at])?;
+        apply(&mut replayed, calls[at])?;
     }
     replayed.materialize()?;
     Ok(replayed)

@@ -4,8 +4,8 @@
 //! Contracts say that none waits there, but of an edition. What comes out of each is written here by hand, and no contract says that memory
 //! suffices.
 ghost use Rattle.std.specs.Prelude.{◌≡◌, true};
-ghost use Rattle.grb_state.specs.Settled.{AreAllAssembled};
-ghost use Rattle.grb_state.specs.State.{is_assembled};
+ghost use Rattle.grb_states.specs.Settled.{AreAllAssembled};
+ghost use Rattle.grb_states.specs.State.{is_assembled};
 
 use crate::editions::results_of;
 use crate::operations::{PLAIN, lent};
@@ -15,12 +15,11 @@ use crate::texts::text_of;
 use crate::values::held_after;
 use grb_call::{Call, MatrixId, Object, VectorId};
 use grb_core::{BinaryOp, Domain, Monoid, Semiring, Value};
-use grb_folds::{reduce_matrix, reduce_vector};
-use grb_pull::mxv;
+use grb_ops::{mxv, reduce_matrix, reduce_vector};
 use grb_replay::Versions;
 use grb_results::Kept;
 use grb_sparse::{SparseMatrix, SparseVector};
-use grb_state::State;
+use grb_states::State;
 use std::alloc::{AllocError, Global};
 use std::process::Abort;
 

@@ -5,8 +5,8 @@
 //! table which is given results makes no call.
 ghost use Rattle.std.specs.Prelude.{◌≡◌, ◌<◌, ◌^◌, true, length, map};
 ghost use Rattle.grb_results.specs.Kept.{AreReady, IsTableOf};
-ghost use Rattle.grb_state.specs.Settled.{AreAllAssembled};
-ghost use Rattle.grb_state.specs.State.{is_assembled};
+ghost use Rattle.grb_states.specs.Settled.{AreAllAssembled};
+ghost use Rattle.grb_states.specs.State.{is_assembled};
 
 use crate::drawn_calls::drawn_history;
 use crate::operations::lent;
@@ -21,7 +21,7 @@ use grb_drawn::Draw;
 use grb_market::WriteFault;
 use grb_results::Table;
 use grb_sparse::{SparseMatrix, SparseVector};
-use grb_state::State;
+use grb_states::State;
 use std::alloc::{AllocError, Global};
 use std::process::Abort;
 

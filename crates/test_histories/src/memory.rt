@@ -9,7 +9,7 @@ use crate::values::{Step, calls_of};
 use grb_call::{Call, MatrixId, Reply, Shapes, VectorId, WaitMode};
 use grb_core::{Domain, Monoid, Value};
 use grb_sparse::{SparseMatrix, SparseVector};
-use grb_state::State;
+use grb_states::State;
 use std::alloc::{AllocError, Global};
 use std::process::Abort;
 

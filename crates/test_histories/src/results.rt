@@ -10,9 +10,10 @@ use crate::same::same;
 use grb_call::{Call, MatrixId, Object, VectorId, VectorTuples};
 use grb_core::{BinaryOp, Domain, Monoid, Value};
 use grb_objects::SharedContent;
+use grb_operations::Bench;
 use grb_replay::{LentCalls, Targets};
 use grb_results::Table;
-use grb_state::{Bench, State};
+use grb_states::State;
 use std::alloc::{AllocError, Global};
 use std::process::Abort;
 

@@ -1,12 +1,13 @@
 //! The store that a list of calls leaves, and what it answers.
 ghost use Rattle.std.specs.Prelude.{◌≡◌, ◌≤◌, false, length, IfOk};
 ghost use Rattle.grb_call.specs.Kinds.{enters, is_size};
-ghost use Rattle.grb_state.specs.Settled.{AreAllAssembled};
-ghost use Rattle.grb_state.specs.State.{is_assembled};
+ghost use Rattle.grb_states.specs.Settled.{AreAllAssembled};
+ghost use Rattle.grb_states.specs.State.{is_assembled};
 
 use grb_call::{Call, Reply};
 use grb_core::Refusal;
-use grb_state::{State, replay};
+use grb_state::{apply, replay, reply, settle};
+use grb_states::State;
 use std::alloc::{AllocError, Global};
 
 /// What a store answers to a call.
@@ -32,7 +33,7 @@ pub(crate) fn applied(alloc: Global, calls: &[&Call]) -> Result<State, AllocErro
     }
     let mut state = State::empty(alloc).try_clone(calls.len() as u32)?;
     'calls: for at in 0..calls.len() {
-        state.apply(calls[at])?;
+        apply(&mut state, calls[at])?;
     }
     Ok(state)
 }
@@ -45,8 +46,8 @@ pub(crate) fn answer(state: &mut State, call: &Call) -> Result<Answer, AllocErro
     match state.refused(call) {
         Some(refusal) => Ok(Err(refusal)),
         None => {
-            state.settle(call)?;
-            Ok(Ok(state.reply(call)))
+            settle(state, call)?;
+            Ok(Ok(reply(state, call)))
         }
     }
 }

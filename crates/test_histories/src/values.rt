@@ -10,7 +10,7 @@ use grb_call::{Call, Descriptor, Object, VectorId};
 use grb_core::{BinaryOp, Domain, Value};
 use grb_replay::{Held, value_of};
 use grb_sparse::SparseVector;
-use grb_state::State;
+use grb_states::State;
 use std::alloc::{AllocError, Global};
 use std::process::Abort;
 

@@ -15,6 +15,7 @@ ghost use Rattle.grb_reader.specs.Settled.{is_materialize, settled_by, waited_fo
 
 use super::Evaluated;
 use grb_call::{Call, Class, Extent, Object, Reply};
+use grb_objects::Helps;
 use grb_reader::Reader;
 use grb_records::Records;
 use std::alloc::AllocError;
@@ -33,7 +34,7 @@ fn is_materialize(call: &Call) -> bool
     }
 }
 
-impl Evaluated {
+impl<O: Helps> Evaluated<O> {
     /// Makes what the object holds after all known calls, which were learnt: from results that other passes left, where that pays. Nothing is
     /// done where it is kept. `AllocError` where memory is refused; what was made stays so.
     fn make(
@@ -139,7 +140,7 @@ impl Evaluated {
     {
         self.make_and_share(records, reader, object)?;
         self.complete(reader, object, call)?;
-        Ok(self.table.reply(object, call))
+        Ok(self.table.reply(&self.bench, object, call))
     }
 
     /// Makes what all objects hold that are there after all known calls, which were learnt, has all changes done, and offers that to the other

@@ -6,7 +6,7 @@ ghost use Rattle.grb_records.specs.Token.{IsOf};
 ghost use Rattle.grb_call.specs.History.{calls_of, store_of};
 ghost use Rattle.grb_call.specs.Shapes.{is_live};
 ghost use Rattle.grb_call.specs.Store.{matrix_at, shapes_of, vector_at};
-ghost use Rattle.grb_replay.specs.Stored.{stored_matrices, stored_matrix, stored_vector, stored_vectors};
+ghost use Rattle.grb_objects.specs.Stored.{stored_matrices, stored_matrix, stored_vector, stored_vectors};
 ghost use Rattle.grb_results.specs.Exchanged.{OfEach};
 ghost use Rattle.grb_results.specs.Kept.{IsReady, IsReadyIfThere, IsTableOf};
 ghost use Rattle.grb_rebuild.specs.Rebuilding.{IsRebuild};
@@ -17,13 +17,13 @@ ghost use Rattle.grb_reader.specs.Known.{known};
 
 use super::Evaluated;
 use grb_call::{MatrixId, Object, VectorId};
-use grb_objects::SharedObject;
+use grb_objects::{Helps, SharedObject};
 use grb_order::{MOST_ROOM, MOST_SEATS};
 use grb_reader::Reader;
 use grb_rebuild::{NoSuccessor, Rebuild, needed, rebuild_all};
 use grb_records::Records;
 use grb_sparse::{SparseMatrix, SparseVector};
-use grb_state::State;
+use grb_states::State;
 use std::alloc::{AllocError, Global};
 
 /// The room of a history that begins with so many calls and takes `room` more, if one that so many passes share may have it.
@@ -66,7 +66,7 @@ pub(super) fn rebuild_beside(
     rebuild_all(alloc, state, whole)
 }
 
-impl Evaluated {
+impl<O: Helps> Evaluated<O> {
     /// Makes what the object holds after all known calls, which were learnt, and has the changes done that wait in it. It is there. Nothing is
     /// done where it lies ready. `AllocError` where memory is refused; what was made stays so.
     fn make_one_ready(

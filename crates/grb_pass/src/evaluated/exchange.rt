@@ -10,6 +10,7 @@ ghost use Rattle.grb_reader.specs.Known.{known};
 
 use super::Evaluated;
 use grb_call::{Call, Object};
+use grb_objects::Helps;
 use grb_reader::Reader;
 use grb_records::Records;
 use grb_slices::CallList;
@@ -38,7 +39,7 @@ fn lent_calls<'a>(records: &'a Records, reader: &mut Reader) -> Result<Vec<&'a C
     Ok(calls)
 }
 
-impl Evaluated {
+impl<O: Helps> Evaluated<O> {
     /// Keeps also the results of the longest edition found of more than so many of the known calls. Nothing is missed where memory is refused.
     fn take_edition(&mut self, records: &Records, reader: &mut Reader, seen: usize)
         requires of { All (IsOf records.now) reader.old.shown }

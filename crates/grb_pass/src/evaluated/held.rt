@@ -1,18 +1,19 @@
 //! Objects that lie ready after all known calls, for who keeps them.
 ghost use Rattle.std.specs.Prelude.{◌≡◌, IfSome, MatchOption};
 ghost use Rattle.grb_call.specs.History.{store_of};
-ghost use Rattle.grb_state.specs.StoredIn.{IsMatrixOf, IsVectorOf};
+ghost use Rattle.grb_states.specs.StoredIn.{IsMatrixOf, IsVectorOf};
 ghost use Rattle.grb_pass.specs.Evaluated.{IsEvaluatedFor, LiesReady};
 ghost use Rattle.grb_reader.specs.Known.{known};
 ghost use Rattle.grb_reader.specs.Settled.{MayLackMatrix, MayLackVector};
 
 use super::Evaluated;
 use grb_call::{MatrixId, VectorId};
+use grb_objects::Helps;
 use grb_reader::Reader;
 use grb_sparse::{SparseMatrix, SparseVector};
 use std::sync::Arc;
 
-impl Evaluated {
+impl<O: Helps> Evaluated<O> {
     /// The matrix as all share it that hold it, as it is after all known calls. None where it was not evaluated, or a change waits in it.
     /// Evaluates nothing, and takes no memory.
     pub(crate) fn held_matrix(&self, reader: &Reader, a: MatrixId) -> Option<&Arc<SparseMatrix>>

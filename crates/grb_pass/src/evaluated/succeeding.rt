@@ -4,7 +4,7 @@ ghost use Rattle.std.specs.Prelude.{◌≡◌, ◌+◌, ◌<◌, ◌≤◌, ◌^
 ghost use Rattle.grb_order.specs.declared.limits.TheConstants.{MOST_PASSES, MOST_ROOM};
 ghost use Rattle.grb_records.specs.Token.{IsOf};
 ghost use Rattle.grb_call.specs.History.{store_of};
-ghost use Rattle.grb_state.specs.Live.{live_store};
+ghost use Rattle.grb_states.specs.Live.{live_store};
 ghost use Rattle.grb_rebuild.specs.Rebuilding.{IsRebuild};
 ghost use Rattle.grb_rebuild.specs.Renumbered.{AreRenumbered};
 ghost use Rattle.grb_pass.specs.Chosen.{IsNoSuccessor, MayHaveRoom, NamesLive, room_beside};
@@ -17,10 +17,11 @@ use super::Evaluated;
 use super::choosing::rebuild_beside;
 use super::exchange::DEAR;
 use grb_call::{MatrixId, VectorId};
+use grb_objects::Helps;
 use grb_reader::Reader;
 use grb_rebuild::{NoSuccessor, Rebuild, Renumbered, live_state};
 use grb_records::Records;
-use grb_state::State;
+use grb_states::State;
 use std::alloc::{AllocError, Global};
 
 /// The matrices of the first numbers. `AllocError` where memory is refused.
@@ -45,7 +46,7 @@ fn all_vectors(alloc: Global, count: u32) -> Result<Vec<VectorId>, AllocError>
     Ok(ids)
 }
 
-impl Evaluated {
+impl<O: Helps> Evaluated<O> {
     /// The store that all known calls leave, evaluated object by object, with no change left that waits, as [`Evaluated::chosen`] has one.
     fn whole(
         &mut self,

@@ -1,6 +1,6 @@
 use Rattle.std.proofs.Common.{◌≡◌, length, sym, ap, subst, ◌∙◌, arith}
 use Rattle.grb_call.specs.Store.{IsStore}
-use Rattle.grb_state.specs.State.{RoomyStore, is_assembled}
+use Rattle.grb_states.specs.State.{RoomyStore, is_assembled}
 use Rattle.grb_rebuild.specs.Rebuilt.{rebuilt}
 use Rattle.grb_rebuild.proofs.rebuild.rebuild_all.Goals as goal
 

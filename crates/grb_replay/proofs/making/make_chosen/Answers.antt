@@ -7,10 +7,10 @@ use Rattle.grb_call.specs.declared.ids.Object.{Object}
 use Rattle.grb_call.specs.Store.{Store}
 use Rattle.grb_call.specs.History.{after_all}
 use Rattle.grb_slices.specs.Content.{Contents, content_at}
-use Rattle.grb_slices.specs.Followed.{GoesOn}
+use Rattle.grb_replay.specs.Followed.{GoesOn}
 use Rattle.grb_slices.specs.Slice.{entries, evaluated, sliced}
-use Rattle.grb_slices.proofs.Walked.{call_in_rest, call_there}
-use Rattle.grb_slices.proofs.Going.{HasCome, comes_at, goes_at, goes_target, has_gone_over, inside_default}
+use Rattle.grb_replay.proofs.Walked.{call_in_rest, call_there}
+use Rattle.grb_replay.proofs.Going.{HasCome, comes_at, goes_at, goes_target, has_gone_over, inside_default}
 use Rattle.grb_replay.proofs.making.make_chosen.Goals as goal
 
 pub places-preserved : goal.places-preserved

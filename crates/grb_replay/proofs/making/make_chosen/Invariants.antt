@@ -3,8 +3,8 @@ use Rattle.grb_call.specs.Store.{Store}
 use Rattle.grb_call.specs.History.{after_all}
 use Rattle.grb_slices.specs.Content.{content_at}
 use Rattle.grb_slices.specs.Slice.{Wants, entries, evaluated, sliced}
-use Rattle.grb_slices.specs.Followed.{GoesOn}
-use Rattle.grb_slices.proofs.Going.{HasCome}
+use Rattle.grb_replay.specs.Followed.{GoesOn}
+use Rattle.grb_replay.proofs.Going.{HasCome}
 use Rattle.grb_replay.proofs.making.make_chosen.Given as goal
 
 abbrev pub invariant-places : goal.invariant-places

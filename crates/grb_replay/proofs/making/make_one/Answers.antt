@@ -1,5 +1,5 @@
 use Rattle.std.proofs.Common.{sym, ◌∙◌}
-use Rattle.grb_slices.specs.Followed.{part_after}
+use Rattle.grb_replay.specs.Followed.{part_after}
 use Rattle.grb_replay.proofs.making.make_one.Goals as goal
 
 pub returns-clause-store : goal.returns-clause-store

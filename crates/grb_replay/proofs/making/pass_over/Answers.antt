@@ -1,5 +1,5 @@
 use Rattle.std.proofs.Common.{sym, ◌∙◌}
-use Rattle.grb_slices.proofs.Placed.{left_new}
+use Rattle.grb_replay.proofs.Placed.{left_new}
 use Rattle.grb_replay.proofs.making.pass_over.Goals as goal
 
 pub returns-clause-store : goal.returns-clause-store

@@ -7,11 +7,11 @@ use Rattle.grb_call.specs.Status.{is_same_object}
 use Rattle.grb_call.specs.Store.{Store, shapes_of}
 use Rattle.grb_call.specs.History.{after_all}
 use Rattle.grb_slices.specs.Content.{content_at}
-use Rattle.grb_slices.specs.Followed.{targets_of}
+use Rattle.grb_slices.specs.Targets.{targets_of}
 use Rattle.grb_slices.specs.Slice.{Element, evaluated}
-use Rattle.grb_slices.specs.SliceFor.{IsSliceFor}
-use Rattle.grb_slices.specs.Wanted.{Marks, is_wanted}
-use Rattle.grb_slices.proofs.Walked.{or_nothing}
+use Rattle.grb_replay.specs.SliceFor.{IsSliceFor}
+use Rattle.grb_replay.specs.Wanted.{Marks, is_wanted}
+use Rattle.grb_replay.proofs.Walked.{or_nothing}
 use Rattle.grb_slices.proofs.Wants.{is_same_object-self}
 use Rattle.grb_slices.specs.Targets.{WalkedCalls}
 use Rattle.grb_slices.proofs.NextTarget.{walked_all}

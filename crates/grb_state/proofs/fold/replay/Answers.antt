@@ -8,6 +8,6 @@ calls-preserved c =
     let calls = c.args.calls.now in let at = c.calls.at in let here = c.index-calls-at.result in
     record {
       room = omega (arith, c.calls.invariant.room, c.in_ok-apply.ensures.room);
-      store = next_call c.args.state.now.store c.calls.replayed.store c.apply.new.self.store (map (λ a. a.now) calls) at here.now (omega (arith, c.calls-test.true, length-map calls (λ a. a.now)))
+      store = next_call c.args.state.now.store c.calls.replayed.store c.apply.new.state.store (map (λ a. a.now) calls) at here.now (omega (arith, c.calls-test.true, length-map calls (λ a. a.now)))
           (get_or-map (λ a. a.now) calls at here ∙ ap (λ a. a.now) (sym c.index-calls-at.is)) c.calls.invariant.store c.in_ok-apply.ensures.store;
     }

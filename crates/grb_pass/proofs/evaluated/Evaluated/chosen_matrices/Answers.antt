@@ -3,7 +3,7 @@ use Rattle.std.proofs.lemmas.List.{length_push}
 use Rattle.grb_sparse.specs.Matrix.{SparseMatrixView}
 use Rattle.grb_call.specs.History.{store_of}
 use Rattle.grb_call.specs.Store.{matrix_at}
-use Rattle.grb_replay.specs.Stored.{stored_matrices, stored_matrix}
+use Rattle.grb_objects.specs.Stored.{stored_matrices, stored_matrix}
 use Rattle.grb_results.specs.Exchanged.{OfEach}
 use Rattle.grb_results.proofs.Lists.{each_push}
 use Rattle.grb_reader.specs.Known.{Knowing, known}
@@ -11,7 +11,7 @@ use Rattle.grb_pass.proofs.Choosing.{chosen_more}
 use Rattle.grb_pass.proofs.evaluated.Evaluated.chosen_matrices.Goals as goal
 
 pub chosen-preserved : goal.chosen-preserved
-chosen-preserved c =
+chosen-preserved g c =
     let p : Knowing = c.args.reader.now in let all = c.chosen.all.items in let at = c.chosen.at in let q = c.in-Ok.matrix in let items = c.in-Ok-push.ensures.items in
     let near : at < length c.args.chosen.now = omega (arith, c.chosen-test.true, c.chosen.auto.at-end) in
     let more : length c.push.new.self.items ≡ length all + 1 = ap length items ∙ length_push all q in

@@ -5,7 +5,7 @@ use Rattle.grb_pass.proofs.Held.{lacks, lacks_unsettled, live_here, matrix_live,
 use Rattle.grb_pass.proofs.evaluated.Evaluated.held_matrix.Goals as goal
 
 pub returns : goal.returns
-returns c =
+returns g c =
     let p = c.args.reader.now in let t = c.self.inside.table in let o = object.Matrix c.args.a in
     let is : IsEvaluatedFor p t = subst (λ (x : Table). IsEvaluatedFor p x) (sym c.self.view_is) c.requires.evaluated in
     let ready : IfSome p.made.ready (LiesReady t) = subst (λ (x : Table). IfSome p.made.ready (LiesReady x)) (sym c.self.view_is) c.requires.ready in

@@ -6,7 +6,7 @@ use Rattle.grb_pass.proofs.Replying.{given_err, given_ok, kept_settled, live, no
 use Rattle.grb_pass.proofs.evaluated.Evaluated.reply_of_object.Goals as goal
 
 pub returns-in_err-make_and_share : goal.returns-in_err-make_and_share
-returns-in_err-make_and_share c =
+returns-in_err-make_and_share g c =
     let p : Knowing = c.args.reader.now in let t : Table = c.args.self.now in let q : Knowing = c.make_and_share.new.reader in let u : Table = c.make_and_share.new.self in
     let kept = kept_settled p t c.requires.evaluated c.requires.table c.args.object c.args.call.now c.requires.call in
     let evaluated : IsEvaluatedFor q u = subst (λ (k : Knowing). IsEvaluatedFor k u) (sym c.make_and_share.ensures.same)
@@ -16,14 +16,14 @@ returns-in_err-make_and_share c =
     (λ all. ap (λ (x : Table). x.made) (c.make_and_share.ensures.stays (kept all)))
 
 pub complete-requires-clause-evaluated : goal.complete-requires-clause-evaluated
-complete-requires-clause-evaluated c =
+complete-requires-clause-evaluated g c =
     let p : Knowing = c.args.reader.now in let t : Table = c.args.self.now in let q : Knowing = c.make_and_share.new.reader in let u : Table = c.make_and_share.new.self in
     let kept = kept_settled p t c.requires.evaluated c.requires.table c.args.object c.args.call.now c.requires.call in
     subst (λ (k : Knowing). IsEvaluatedFor k u) (sym c.make_and_share.ensures.same)
     (evaluated_same p t u c.requires.evaluated (subst (λ (k : Knowing). IsTable (calls_of (known k)) u) c.make_and_share.ensures.same c.make_and_share.ensures.table) c.make_and_share.ensures.learnt (λ all. c.make_and_share.ensures.stays (kept all)))
 
 pub reply-requires-clause-may : goal.reply-requires-clause-may
-reply-requires-clause-may c =
+reply-requires-clause-may g c =
     let p : Knowing = c.args.reader.now in let q : Knowing = c.make_and_share.new.reader in let u : Table = c.complete.new.self in
     let learnt : u.learnt ≡ c.args.self.now.learnt = c.complete.ensures.learnt ∙ c.make_and_share.ensures.learnt in
     let of : IsTableOf (calls_of (known q)) u = record {
@@ -34,7 +34,7 @@ reply-requires-clause-may c =
     (record { calls = calls_of (known q); table = of; reads = subst (λ (k : Knowing). ReadsObject (store_of (known k)) c.args.object c.args.call.now) (sym c.make_and_share.ensures.same) c.requires.call })
 
 pub returns : goal.returns
-returns c =
+returns g c =
     let p : Knowing = c.args.reader.now in let t : Table = c.args.self.now in let q : Knowing = c.make_and_share.new.reader in let u : Table = c.complete.new.self in
     let learnt : u.learnt ≡ t.learnt = c.complete.ensures.learnt ∙ c.make_and_share.ensures.learnt in
     let kept = kept_settled p t c.requires.evaluated c.requires.table c.args.object c.args.call.now c.requires.call in
@@ -45,4 +45,4 @@ returns c =
     (subst (λ (n : ℕ). IfSome (waited_for c.args.call.now) (λ o. LiesReadyAfter u o n)) (nodes ∙ length-calls_of (known p)) c.in_ok-complete.ensures.ready)
 
 pub make_and_share-requires-clause-live : goal.make_and_share-requires-clause-live
-make_and_share-requires-clause-live c = live c.args.reader.now c.args.self.now c.requires.evaluated c.requires.table c.args.object c.args.call.now c.requires.call
+make_and_share-requires-clause-live g c = live c.args.reader.now c.args.self.now c.requires.evaluated c.requires.table c.args.object c.args.call.now c.requires.call

@@ -13,13 +13,13 @@ use Rattle.grb_pass.proofs.Choosing.{chosen_all, length-matrix_ids, length-vecto
 use Rattle.grb_pass.proofs.evaluated.Evaluated.whole.Goals as goal
 
 pub chosen-requires-clause-matrices : goal.chosen-requires-clause-matrices
-chosen-requires-clause-matrices c = omega (arith, ap length c.as_slice.ensures.value, ap length c.in-Ok.ensures, length-matrix_ids c.matrices.result, c.matrices.type_inv)
+chosen-requires-clause-matrices g c = omega (arith, ap length c.as_slice.ensures.value, ap length c.in-Ok.ensures, length-matrix_ids c.matrices.result, c.matrices.type_inv)
 
 pub chosen-requires-clause-vectors : goal.chosen-requires-clause-vectors
-chosen-requires-clause-vectors c = omega (arith, ap length c.as_slice-2.ensures.value, ap length c.in-Ok-all_vectors.ensures, length-vector_ids c.vectors.result, c.vectors.type_inv)
+chosen-requires-clause-vectors g c = omega (arith, ap length c.as_slice-2.ensures.value, ap length c.in-Ok-all_vectors.ensures, length-vector_ids c.vectors.result, c.vectors.type_inv)
 
 pub returns-clause-store : goal.returns-clause-store
-returns-clause-store c =
+returns-clause-store g c =
     let s : Store = store_of (known c.args.reader.now) in
     let matrix_count : c.matrices.result ≡ length s.matrices = c.matrices.ensures ∙ ap (λ (o : ObjectShapes). length o.matrices) c.shapes.ensures ∙ length-map s.matrices (option_map matrix_shape) in
     let vector_count : c.vectors.result ≡ length s.vectors = c.vectors.ensures ∙ ap (λ (o : ObjectShapes). length o.vectors) c.shapes-2.ensures ∙ length-map s.vectors (option_map vector_shape) in

@@ -3,4 +3,4 @@ use Rattle.grb_pass.proofs.Prelude.{Knowing, known}
 use Rattle.grb_pass.proofs.pass.Pass.begin.Goals as goal
 
 pub returns-clause-settled : goal.returns-clause-settled
-returns-clause-settled c = subst (λ (k : Knowing). k.settled ≤ length (known k)) c.self.view_is c.self.invariant.step.evaluated.within
+returns-clause-settled g c = subst (λ (k : Knowing). k.settled ≤ length (known k)) c.self.view_is c.self.invariant.step.evaluated.within

@@ -4,7 +4,7 @@ use Rattle.grb_pass.proofs.Evaluating.{in_step_tried}
 use Rattle.grb_pass.proofs.pass.Pass.enter.Goals as goal
 
 pub invariant_of-self : goal.invariant_of-self
-invariant_of-self c =
+invariant_of-self g c =
     let all = subst (λ (p : Knowing). length p.shown ≡ length p.view.words) (sym c.self.view_is) c.requires.shown in
     let room = room_of c.args.order.now in let p = c.self.inside in
     let new = c.enter-back.new.self in let is = c.enter-back.ensures in let token = c.args.token in

@@ -3,4 +3,4 @@ use Rattle.grb_pass.proofs.Prelude.{Knowing, known}
 use Rattle.grb_pass.proofs.pass.Pass.known.Goals as goal
 
 pub returns : goal.returns
-returns c = c.known.ensures.known ∙ ap (λ (p : Knowing). length (known p)) c.self.view_is
+returns g c = c.known.ensures.known ∙ ap (λ (p : Knowing). length (known p)) c.self.view_is

@@ -5,7 +5,7 @@ use Rattle.grb_pass.proofs.Evaluating.{evaluated_opened}
 use Rattle.grb_pass.proofs.pass.Pass.open.Goals as goal
 
 pub invariant_of-result : goal.invariant_of-result
-invariant_of-result c =
+invariant_of-result g c =
     let r : Knowing = c.in_ok-reader.reader in let t : Table = c.in_ok-evaluated.evaluated in let next = c.open-3.result.next in
     let e : r ≡ new_pass c.args.seat.table_id c.args.seat.view = c.in_ok-reader.ensures in
     record {

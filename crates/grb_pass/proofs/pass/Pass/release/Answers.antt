@@ -4,7 +4,7 @@ use Rattle.grb_pass.proofs.Evaluating.{evaluated_released, table_begun}
 use Rattle.grb_pass.proofs.pass.Pass.release.Goals as goal
 
 pub invariant_of-self : goal.invariant_of-self
-invariant_of-self c =
+invariant_of-self g c =
     let p : Knowing = c.self.inside.reader in let t : Table = c.self.inside.evaluated in let q : Knowing = c.unsettle.new.self in let b : Table = c.begin.new.self in let u : Table = c.release.new.self in
     let is = c.self.invariant.step.evaluated in
     let e : q ≡ record p { settled = 0; made = none_made } = c.unsettle.ensures ∙ ap (λ (k : Knowing). record k { settled = 0 }) c.note_made.ensures in

@@ -8,20 +8,20 @@ use Rattle.grb_pass.proofs.shared.Shared.begin_all.Goals as goal
 use Rattle.grb_pass.proofs.shared.Shared.begin_all.Goals.{In-Ok}
 
 pub begin_first-requires-clause-taken : goal.begin_first-requires-clause-taken
-begin_first-requires-clause-taken c = subst (AreTaken empty_store) (sym c.requires.rebuild.calls_are) (rebuild_is_taken c.args.rebuild.state.store c.requires.rebuild.whole)
+begin_first-requires-clause-taken g c = subst (AreTaken empty_store) (sym c.requires.rebuild.calls_are) (rebuild_is_taken c.args.rebuild.state.store c.requires.rebuild.whole)
 
 pub begin_first-requires-clause-store : goal.begin_first-requires-clause-store
-begin_first-requires-clause-store c = sym (ap (after_all empty_store) c.requires.rebuild.calls_are ∙ rebuild_leaves_the_store c.args.rebuild.state.store c.requires.rebuild.whole)
+begin_first-requires-clause-store g c = sym (ap (after_all empty_store) c.requires.rebuild.calls_are ∙ rebuild_leaves_the_store c.args.rebuild.state.store c.requires.rebuild.whole)
 
 pub tell_all-requires-clause-opened : goal.tell_all-requires-clause-opened
-tell_all-requires-clause-opened c = λ n p at.
+tell_all-requires-clause-opened g c = λ n p at.
     let opened = c.args.opened.items in let context = c.args.self.now in
     let new = new_opened context (length opened) opened (n + 1) p c.requires.opened (sym (removed_rest opened c.remove-first.new.self.items n c.requires.some c.remove-first.ensures.items) ∙ at) in
     let first = new_first context (length opened) opened c.remove-first.result c.requires.opened c.requires.some c.remove-first.ensures.value in
     record { opened = new.0; passes = new.2 ∙ sym (c.in_ok-begin_first.ensures.passes ∙ first.1) }
 
-begun : (c : In-Ok) → AreBegun c.args.self.now c.args.rebuild.state.store (length c.args.opened.items) c.insert.new.self.items
-begun c =
+begun : (g : _) (c : In-Ok g) → AreBegun c.args.self.now c.args.rebuild.state.store (length c.args.opened.items) c.insert.new.self.items
+begun g c =
     let opened = c.args.opened.items in let context = c.args.self.now in let told = c.in_ok-tell_all.ensures in
     let first = c.begin_first.new.pass in let others = c.tell_all.new.others.items in
     let new = new_first context (length opened) opened c.remove-first.result c.requires.opened c.requires.some c.remove-first.ensures.value in
@@ -39,7 +39,7 @@ begun c =
     (omega (arith, told.count, c.remove-first.ensures.len, c.requires.some)) start (c.in_ok-begin_first.ensures.passes ∙ new.1) (knows ∙ ap (made_by 0) c.requires.rebuild.calls_are) told.opened told.known
 
 pub returns-clause-begun : goal.returns-clause-begun
-returns-clause-begun c = begun c
+returns-clause-begun g c = begun g c
 
 pub returns-clause-ours : goal.returns-clause-ours
-returns-clause-ours c = all_begun c.args.self.now c.args.rebuild.state.store (length c.args.opened.items) c.insert.new.self.items (begun c)
+returns-clause-ours g c = all_begun c.args.self.now c.args.rebuild.state.store (length c.args.opened.items) c.insert.new.self.items (begun g c)

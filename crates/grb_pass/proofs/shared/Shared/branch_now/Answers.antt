@@ -11,25 +11,25 @@ if_ok (Ok x) p = p
 if_ok (Err e) p = tt
 
 pub returns-clause-pass : goal.returns-clause-pass
-returns-clause-pass c = pass_same c.args.self.now c.look.new.pass c.branch-self.new.pass (ap (λ (p : Knowing). p.order) c.branch-self.ensures.same) (ap (λ (p : Knowing). p.shown) c.branch-self.ensures.same) c.look.ensures.pass
+returns-clause-pass g c = pass_same c.args.self.now c.look.new.pass c.branch-self.new.pass (ap (λ (p : Knowing). p.order) c.branch-self.ensures.same) (ap (λ (p : Knowing). p.shown) c.branch-self.ensures.same) c.look.ensures.pass
 
 pub returns-clause-looks : goal.returns-clause-looks
-returns-clause-looks c = looks_alike (room_of c.args.self.now.order) c.args.pass.now c.look.new.pass c.branch-self.new.pass c.branch-self.ensures.same c.look.ensures.looks
+returns-clause-looks g c = looks_alike (room_of c.args.self.now.order) c.args.pass.now c.look.new.pass c.branch-self.new.pass c.branch-self.ensures.same c.look.ensures.looks
 
 pub returns-clause-now : goal.returns-clause-now
-returns-clause-now c = if_ok c.branch-self.result (now_alike (room_of c.args.self.now.order) c.args.pass.now c.look.new.pass c.branch-self.new.pass c.branch-self.ensures.same c.in-Ok.ensures.now)
+returns-clause-now g c = if_ok c.branch-self.result (now_alike (room_of c.args.self.now.order) c.args.pass.now c.look.new.pass c.branch-self.new.pass c.branch-self.ensures.same c.in-Ok.ensures.now)
 
 pub returns-clause-room : goal.returns-clause-room
-returns-clause-room c = subst (λ (p : Knowing). IfOk c.branch-self.result (λ opened. room_of opened.0.order ≡ room_beside (chosen_store (store_of (known p)) c.args.matrices.now c.args.vectors.now) c.args.room)) (sym c.branch-self.ensures.same) c.branch-self.ensures.room
+returns-clause-room g c = subst (λ (p : Knowing). IfOk c.branch-self.result (λ opened. room_of opened.0.order ≡ room_beside (chosen_store (store_of (known p)) c.args.matrices.now c.args.vectors.now) c.args.room)) (sym c.branch-self.ensures.same) c.branch-self.ensures.room
 
 pub returns-clause-records : goal.returns-clause-records
-returns-clause-records c = subst (λ (p : Knowing). IfOk c.branch-self.result (λ opened. HasRows c.args.passes (room_beside (chosen_store (store_of (known p)) c.args.matrices.now c.args.vectors.now) c.args.room) opened.0.records)) (sym c.branch-self.ensures.same) c.branch-self.ensures.records
+returns-clause-records g c = subst (λ (p : Knowing). IfOk c.branch-self.result (λ opened. HasRows c.args.passes (room_beside (chosen_store (store_of (known p)) c.args.matrices.now c.args.vectors.now) c.args.room) opened.0.records)) (sym c.branch-self.ensures.same) c.branch-self.ensures.records
 
 pub returns-clause-begun : goal.returns-clause-begun
-returns-clause-begun c = subst (λ (p : Knowing). IfOk c.branch-self.result (λ opened. AreBegun opened.0 (chosen_store (store_of (known p)) c.args.matrices.now c.args.vectors.now) c.args.passes opened.1.items)) (sym c.branch-self.ensures.same) c.branch-self.ensures.begun
+returns-clause-begun g c = subst (λ (p : Knowing). IfOk c.branch-self.result (λ opened. AreBegun opened.0 (chosen_store (store_of (known p)) c.args.matrices.now c.args.vectors.now) c.args.passes opened.1.items)) (sym c.branch-self.ensures.same) c.branch-self.ensures.begun
 
 pub returns-clause-refused : goal.returns-clause-refused
-returns-clause-refused c = subst (λ (p : Knowing). IfErr c.branch-self.result (IsNoSuccessor c.args.room c.args.passes (chosen_store (store_of (known p)) c.args.matrices.now c.args.vectors.now))) (sym c.branch-self.ensures.same) c.branch-self.ensures.refused
+returns-clause-refused g c = subst (λ (p : Knowing). IfErr c.branch-self.result (IsNoSuccessor c.args.room c.args.passes (chosen_store (store_of (known p)) c.args.matrices.now c.args.vectors.now))) (sym c.branch-self.ensures.same) c.branch-self.ensures.refused
 
 pub returns-clause-named : goal.returns-clause-named
-returns-clause-named c = subst (λ (p : Knowing). IfErr c.branch-self.result (NamesChosen (store_of (known p)) c.args.matrices.now c.args.vectors.now)) (sym c.branch-self.ensures.same) c.branch-self.ensures.named
+returns-clause-named g c = subst (λ (p : Knowing). IfErr c.branch-self.result (NamesChosen (store_of (known p)) c.args.matrices.now c.args.vectors.now)) (sym c.branch-self.ensures.same) c.branch-self.ensures.named

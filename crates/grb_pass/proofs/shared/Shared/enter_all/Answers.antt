@@ -5,7 +5,7 @@ use Rattle.grb_pass.proofs.Succeeding.{store_of-push}
 use Rattle.grb_pass.proofs.shared.Shared.enter_all.Goals as goal
 
 pub calls-preserved : goal.calls-preserved
-calls-preserved c =
+calls-preserved g c =
     let n = c.args.pass.now.view.number in
     let old : History = known c.calls.pass in
     let call : Call = c.in-Some.call in

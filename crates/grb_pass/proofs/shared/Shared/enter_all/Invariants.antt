@@ -4,7 +4,7 @@ use Rattle.grb_pass.specs.Succeeding.{made_by}
 use Rattle.grb_pass.proofs.shared.Shared.enter_all.Given as goal
 
 abbrev pub invariant-calls : goal.invariant-calls
-invariant-calls l = record {
+invariant-calls g l = record {
   pass : IsPassOf l.self l.pass;
   number : l.pass.view.number ≡ l.fn.pass.view.number;
   passes : l.pass.view.passes ≡ l.fn.pass.view.passes;

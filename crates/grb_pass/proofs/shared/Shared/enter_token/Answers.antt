@@ -6,7 +6,7 @@ use Rattle.grb_reader.specs.Learning.{IsReady}
 use Rattle.grb_pass.proofs.shared.Shared.enter_token.Goals as goal
 
 pub tries-init : goal.tries-init
-tries-init c =
+tries-init g c =
     let pass = c.args.pass.now in record {
       pass = c.requires.pass;
       learns = learns_refl pass;
@@ -23,32 +23,32 @@ tries-init c =
     }
 
 pub enter-requires-clause-accepted : goal.enter-requires-clause-accepted
-enter-requires-clause-accepted c =
+enter-requires-clause-accepted g c =
     let now = c.tries.invariant in
     let is : c.call_of-call.result.now ≡ c.args.token.call = subst (λ (x : Call). c.call_of-call.result.now ≡ x) now.call c.call_of-call.ensures.call in
     subst (λ (x : Call). refused_by_shapes (shapes_of (store_of (known c.tries.pass))) x ≡ None) (sym is) (unrefused_by_shapes (store_of (known c.tries.pass)) c.args.token.call now.ready.unrefused)
 
 pub enter-requires-clause-fresh : goal.enter-requires-clause-fresh
-enter-requires-clause-fresh c = subst (λ (t : Shown). OwnBelow t.index c.tries.pass.view) (sym c.call_of-call.ensures.same) c.tries.invariant.fresh
+enter-requires-clause-fresh g c = subst (λ (t : Shown). OwnBelow t.index c.tries.pass.view) (sym c.call_of-call.ensures.same) c.tries.invariant.fresh
 
 pub enter-requires-clause-few : goal.enter-requires-clause-few
-enter-requires-clause-few c =
+enter-requires-clause-few g c =
     let now = c.tries.invariant in let room_left = now.ready.room_left in
     let n : c.tries.pass.steps < 2 ^ 29 = steps_near c.args.pass.now c.tries.pass now.learns now.counts c.requires.few c.requires.ready.looked now.lost (omega (arith, room_left, now.small)) in omega (arith, n)
 
 pub ready-requires-clause-few : goal.ready-requires-clause-few
-ready-requires-clause-few c =
+ready-requires-clause-few g c =
     let back = c.in-Some.ensures.enters in let now = c.tries.invariant in let room_left = now.ready.room_left in
     steps_lost c.tries.pass c.enter.new.self back.2 c.enter.ensures.counts back.3
     (steps_near c.args.pass.now c.tries.pass now.learns now.counts c.requires.few c.requires.ready.looked now.lost (omega (arith, room_left, now.small)))
 
 pub returns-in_default-clause-pass : goal.returns-in_default-clause-pass
-returns-in_default-clause-pass c =
+returns-in_default-clause-pass g c =
     let token = c.call_of-call.new.token in
     pass_push c.args.self.now c.tries.pass c.enter.new.self token c.enter.ensures.order c.in_default.ensures.enters.1 (subst (λ (t : Shown). IsOf c.args.self.now.records t) (sym c.call_of-call.ensures.same) c.tries.invariant.of) c.tries.invariant.pass
 
 pub returns-in_default-clause-explains : goal.returns-in_default-clause-explains
-returns-in_default-clause-explains c =
+returns-in_default-clause-explains g c =
     let room = room_of c.args.self.now.order in let old = c.args.pass.now in let mid = c.tries.pass in let now = c.tries.invariant in let call = c.args.token.call in
     let is : c.call_of-call.result.now ≡ call = subst (λ (x : Call). c.call_of-call.result.now ≡ x) now.call c.call_of-call.ensures.call in
     let same = c.call_of-call.ensures.same in
@@ -57,18 +57,18 @@ returns-in_default-clause-explains c =
     (subst (λ (x : Call). c.reply-reply.result ≡ reply_of (store_of (known c.pass.inside.reader)) x) is c.reply-reply.ensures ∙ ap (λ (k : Knowing). reply_of (store_of (known k)) call) c.pass.view_is)
 
 pub returns-in_default-clause-caught_up : goal.returns-in_default-clause-caught_up
-returns-in_default-clause-caught_up c =
+returns-in_default-clause-caught_up g c =
     known_entered c.tries.pass c.enter.new.self c.call_of-call.new.token (room_of c.args.self.now.order) c.args.token.call c.tries.invariant.ready (rw c.call_of-call.ensures.same c.tries.invariant.index) c.in_default.ensures.enters.0 c.in_default.ensures.enters.1
 
 pub returns-in_default-clause-counts : goal.returns-in_default-clause-counts
-returns-in_default-clause-counts c =
+returns-in_default-clause-counts g c =
     let room = room_of c.args.self.now.order in let old = c.args.pass.now in let mid = c.tries.pass in let new = c.enter.new.self in let token = c.call_of-call.new.token in
     let now = c.tries.invariant in let won = c.in_default.ensures.enters in
     counts_won room old mid new (order_word mid.view.number token.index) now.learns now.counts c.enter.ensures.counts won.0 now.ready.room_left
     (known_entered mid new token room c.args.token.call now.ready (rw c.call_of-call.ensures.same now.index) won.0 won.1) now.lost
 
 pub tries-preserved : goal.tries-preserved
-tries-preserved c =
+tries-preserved g c =
     let room = room_of c.args.self.now.order in let old = c.args.pass.now in let mid = c.tries.pass in let lost = c.enter.new.self in let new = c.ready.new.pass in
     let now = c.tries.invariant in let back = c.in-Some.ensures.enters in
     let is : c.call_of-call.result.now ≡ c.args.token.call = subst (λ (x : Call). c.call_of-call.result.now ≡ x) now.call c.call_of-call.ensures.call in
@@ -92,7 +92,7 @@ tries-preserved c =
     }
 
 pub returns-in_err-ready-clause-counts : goal.returns-in_err-ready-clause-counts
-returns-in_err-ready-clause-counts c =
+returns-in_err-ready-clause-counts g c =
     let room = room_of c.args.self.now.order in let old = c.args.pass.now in let mid = c.tries.pass in let lost = c.enter.new.self in let new = c.ready.new.pass in
     let now = c.tries.invariant in let back = c.in-Some.ensures.enters in
     let first : Learns old lost = learns_lost room old mid lost c.args.token.call back.2 now.learns now.ready back.1 c.enter.ensures.statuses c.enter.ensures.settled back.3 in
@@ -100,7 +100,7 @@ returns-in_err-ready-clause-counts c =
     counts_lost room old mid lost new back.2 now.learns all (counts_then old lost new (counts_then old mid lost now.counts c.enter.ensures.counts) c.ready.ensures.counts) now.lost back.3 c.ready.ensures.learns c.ready.ensures.looks
 
 pub returns-in_err-ready-clause-explains : goal.returns-in_err-ready-clause-explains
-returns-in_err-ready-clause-explains c =
+returns-in_err-ready-clause-explains g c =
     let room = room_of c.args.self.now.order in let old = c.args.pass.now in let mid = c.tries.pass in let lost = c.enter.new.self in let new = c.ready.new.pass in
     let now = c.tries.invariant in let back = c.in-Some.ensures.enters in let call = c.args.token.call in
     let is : c.call_of-call.result.now ≡ call = subst (λ (x : Call). c.call_of-call.result.now ≡ x) now.call c.call_of-call.ensures.call in
@@ -110,10 +110,10 @@ returns-in_err-ready-clause-explains c =
     (refused_before room old lost new call first _ (subst (λ (x : Call). IsRefused room lost new x c.in_err-ready.field-0.0) is c.in_err-ready.ensures.refused)))
 
 pub returns-in_default-clause-made : goal.returns-in_default-clause-made
-returns-in_default-clause-made c plain = c.enter.ensures.made ∙ c.tries.invariant.made plain
+returns-in_default-clause-made g c plain = c.enter.ensures.made ∙ c.tries.invariant.made plain
 
 pub returns-in_err-ready-clause-made : goal.returns-in_err-ready-clause-made
-returns-in_err-ready-clause-made c plain =
+returns-in_err-ready-clause-made g c plain =
     let now = c.tries.invariant in
     let is : c.call_of-call.result.now ≡ c.args.token.call = subst (λ (x : Call). c.call_of-call.result.now ≡ x) now.call c.call_of-call.ensures.call in
     c.ready.ensures.made (subst (λ (x : Call). is_build x ≡ false) (sym is) plain) ∙ c.enter.ensures.made ∙ now.made plain

@@ -5,7 +5,7 @@ use Rattle.grb_reader.specs.Learning.{IsReady}
 use Rattle.grb_pass.proofs.shared.Shared.enter_token.Given as goal
 
 abbrev pub invariant-tries : goal.invariant-tries
-invariant-tries l = record {
+invariant-tries g l = record {
   pass : IsPassOf l.self l.pass;
   learns : Learns l.fn.pass l.pass;
   of : IsOf l.self.records l.token;
@@ -21,4 +21,4 @@ invariant-tries l = record {
 }
 
 abbrev pub decreases-tries : goal.decreases-tries
-decreases-tries l = room_of l.self.order - length l.pass.view.words
+decreases-tries g l = room_of l.self.order - length l.pass.view.words

@@ -7,29 +7,29 @@ use Rattle.grb_pass.proofs.Evaluating.{state_learns}
 use Rattle.grb_pass.proofs.shared.Shared.meet.Goals as goal
 
 pub meet-requires-clause-order : goal.meet-requires-clause-order
-meet-requires-clause-order c = ap (λ (p : Knowing). p.order) (c.pass.view_is ∙ c.begin.ensures.same) ∙ c.requires.pass.order ∙ sym (ap (λ (s : Shared). s.order) c.self.view_is)
+meet-requires-clause-order g c = ap (λ (p : Knowing). p.order) (c.pass.view_is ∙ c.begin.ensures.same) ∙ c.requires.pass.order ∙ sym (ap (λ (s : Shared). s.order) c.self.view_is)
 
 pub meet-requires-clause-of : goal.meet-requires-clause-of
-meet-requires-clause-of c =
+meet-requires-clause-of g c =
     subst (λ (p : Knowing). All (IsOf c.self.inside.records) p.shown) (sym (c.pass.view_is ∙ c.begin.ensures.same))
     (subst (λ (s : Shared). All (IsOf s.records) c.args.pass.now.shown) (sym c.self.view_is) c.requires.pass.records)
 
 pub meet-requires-clause-order_other : goal.meet-requires-clause-order_other
-meet-requires-clause-order_other c = ap (λ (p : Knowing). p.order) c.other.view_is ∙ c.requires.other.order ∙ sym (ap (λ (s : Shared). s.order) c.self.view_is)
+meet-requires-clause-order_other g c = ap (λ (p : Knowing). p.order) c.other.view_is ∙ c.requires.other.order ∙ sym (ap (λ (s : Shared). s.order) c.self.view_is)
 
 pub meet-requires-clause-of_other : goal.meet-requires-clause-of_other
-meet-requires-clause-of_other c =
+meet-requires-clause-of_other g c =
     subst (λ (p : Knowing). All (IsOf c.self.inside.records) p.shown) (sym c.other.view_is)
     (subst (λ (s : Shared). All (IsOf s.records) c.args.other.now.shown) (sym c.self.view_is) c.requires.other.records)
 
 pub meet-requires-clause-begun : goal.meet-requires-clause-begun
-meet-requires-clause-begun c = ap (λ (p : Knowing). p.steps) (c.pass.view_is ∙ c.begin.ensures.same)
+meet-requires-clause-begun g c = ap (λ (p : Knowing). p.steps) (c.pass.view_is ∙ c.begin.ensures.same)
 
 pub meet-requires-clause-made : goal.meet-requires-clause-made
-meet-requires-clause-made c = ap (λ (p : Knowing). p.made) (c.pass.view_is ∙ c.begin.ensures.same)
+meet-requires-clause-made g c = ap (λ (p : Knowing). p.made) (c.pass.view_is ∙ c.begin.ensures.same)
 
 pub returns-clause-met : goal.returns-clause-met
-returns-clause-met c =
+returns-clause-met g c =
     let p = c.pass.inside.reader in let q = c.other.inside.reader in
     let now : p ≡ begun c.args.pass.now = c.pass.view_is ∙ c.begin.ensures.same in
     let told : Met c.args.self.now p c.meet.new.self c.args.other.now c.meet.result =
@@ -38,7 +38,7 @@ returns-clause-met c =
     met_begun c.args.self.now c.args.pass.now p c.meet.new.self c.args.other.now c.meet.result now told
 
 pub invariant_of-pass : goal.invariant_of-pass
-invariant_of-pass c =
+invariant_of-pass g c =
     let p = c.pass.inside in let new = c.meet.new.self in let met = c.meet.ensures.met in
     let begun : p.reader.made ≡ none_made = ap (λ (k : Knowing). k.made) (c.pass.view_is ∙ c.begin.ensures.same) in
     let was : p.reader.order ≡ c.self.inside.order = ap (λ (k : Knowing). k.order) (c.pass.view_is ∙ c.begin.ensures.same) ∙ c.requires.pass.order ∙ sym (ap (λ (s : Shared). s.order) c.self.view_is) in

@@ -2,11 +2,11 @@ use Rattle.std.proofs.Common.{◌≡◌, List, drop, ap, subst, Option}
 use Rattle.grb_call.specs.declared.call.Call.{Call}
 use Rattle.grb_call.specs.declared.ids.Object.{Object}
 use Rattle.grb_call.specs.Store.{Store}
-use Rattle.grb_state.specs.State.{RoomyStore}
+use Rattle.grb_states.specs.State.{RoomyStore}
 use Rattle.grb_slices.specs.Content.{content_at}
-use Rattle.grb_slices.specs.Followed.{HoldsSlice}
+use Rattle.grb_replay.specs.Held.{HoldsSlice}
 use Rattle.grb_slices.specs.Slice.{entries, sliced}
-use Rattle.grb_slices.specs.Wanted.{is_wanted}
+use Rattle.grb_replay.specs.Wanted.{is_wanted}
 use Rattle.grb_replay.proofs.Valued.{follows_same, goes_over}
 use Rattle.grb_replay.proofs.partial_store.PartialStore.of.Goals as goal
 

@@ -12,8 +12,8 @@ pub operated-requires-clause-accepted : goal.operated-requires-clause-accepted
 operated-requires-clause-accepted g c =
     let cs : List Call = g.C.CallList.calls c.args.source.now c.args.calls.now in let t = c.args.self.now in
     let near : c.args.at < length t.results.items = omega (arith, c.requires.to_make.near, c.requires.all) in
-    not_refused cs t c.requires.table c.args.at near c.hold_read.new.bench c.args.call.now c.requires.call c.requires.to_make.accepted
-    (subst (λ (os : List Object). AgreeOn (is_among os) (content_at c.hold_read.new.bench) (contents_after cs c.args.at)) (c.requires.read c.args.call.now c.requires.call)
+    not_refused cs t c.requires.table c.args.at near (g.O.Operates.on c.hold_read.new.bench) c.args.call.now c.requires.call c.requires.to_make.accepted
+    (subst (λ (os : List Object). AgreeOn (is_among os) (content_at (g.O.Operates.on c.hold_read.new.bench)) (contents_after cs c.args.at)) (c.requires.read c.args.call.now c.requires.call)
     (c.in_ok-hold_read.ensures [] (store_before cs c.args.at) (agree_none _ _) (λ o wanted. refl)))
 
 pub returns : goal.returns
@@ -23,6 +23,6 @@ returns g c =
     if_ok _ _ c.operated.result
     (λ made makes. some_result cs t c.requires.table c.args.at near c.args.call.now made c.requires.call
     (makes (contents_after cs c.args.at)
-    (subst (λ (os : List Object). AgreeOn (is_among os) (content_at c.hold_read.new.bench) (contents_after cs c.args.at)) (c.requires.read c.args.call.now c.requires.call)
+    (subst (λ (os : List Object). AgreeOn (is_among os) (content_at (g.O.Operates.on c.hold_read.new.bench)) (contents_after cs c.args.at)) (c.requires.read c.args.call.now c.requires.call)
     (c.in_ok-hold_read.ensures [] (store_before cs c.args.at) (agree_none _ _) (λ o wanted. refl)))))
     c.operated.ensures

@@ -11,7 +11,7 @@ operated-requires-clause-accepted g c =
     let near : k < length t.results.items = omega (arith, c.requires.to_make.near, c.requires.all) in
     let output : output_of call ≡ Some o = sym c.output.ensures ∙ c.in-Some.is in
     let blank : IsBlankAt t k c.in-Some-2.value = some_at (IsBlankAt t k) c.in_ok-value.field-0 c.in-Some-2.value c.in-Some-2.is c.in_ok-value.ensures in
-    accepts_bare cs t c.requires.table k near call c.requires.call o c.in-Some-2.value c.requires.to_make.accepted c.requires.operates c.requires.forgets output blank c.hold_inputs.new.bench
+    accepts_bare cs t c.requires.table k near call c.requires.call o c.in-Some-2.value c.requires.to_make.accepted c.requires.operates c.requires.forgets output blank (g.O.Operates.on c.hold_inputs.new.bench)
     (c.in_ok-hold_inputs.ensures (o ∷ []) (bare cs k o)
     (c.in_ok-hold.ensures (bare cs k o) [] (agree_none _ _)
     (stands_empty cs t c.requires.table k near call c.requires.call o c.in-Some-2.value c.requires.to_make.accepted c.requires.operates c.requires.forgets output blank))
@@ -23,12 +23,12 @@ returns g c =
     let near : k < length t.results.items = omega (arith, c.requires.to_make.near, c.requires.all) in
     let output : output_of call ≡ Some o = sym c.output.ensures ∙ c.in-Some.is in
     let blank : IsBlankAt t k c.in-Some-2.value = some_at (IsBlankAt t k) c.in_ok-value.field-0 c.in-Some-2.value c.in-Some-2.is c.in_ok-value.ensures in
-    let agree : AgreeOn (is_among (o ∷ inputs_of call)) (content_at c.hold_inputs.new.bench) (content_at (bare cs k o)) =
+    let agree : AgreeOn (is_among (o ∷ inputs_of call)) (content_at (g.O.Operates.on c.hold_inputs.new.bench)) (content_at (bare cs k o)) =
     c.in_ok-hold_inputs.ensures (o ∷ []) (bare cs k o)
     (c.in_ok-hold.ensures (bare cs k o) [] (agree_none _ _)
     (stands_empty cs t c.requires.table k near call c.requires.call o c.in-Some-2.value c.requires.to_make.accepted c.requires.operates c.requires.forgets output blank))
     (holds_inputs cs t c.requires.table k near call c.requires.call o c.in-Some-2.value c.requires.to_make.accepted c.requires.operates c.requires.forgets output blank) in
     if_ok _ _ c.operated.result
     (λ made makes. overwritten_result cs t c.requires.table k near call c.requires.call o c.in-Some-2.value c.requires.to_make.accepted c.requires.operates c.requires.forgets output blank
-    made c.hold_inputs.new.bench agree makes)
+    made (g.O.Operates.on c.hold_inputs.new.bench) agree makes)
     c.operated.ensures

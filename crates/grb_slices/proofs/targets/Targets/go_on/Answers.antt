@@ -1,6 +1,6 @@
 use Rattle.std.proofs.Common.{◌≡◌, ◌+◌, ◌-◌, ◌<◌, List, length, map, get_or, arith, ap, ◌∙◌, sym}
 use Rattle.grb_slices.proofs.Prelude.{length-drop, length-map, length_push, Call}
-use Rattle.grb_slices.proofs.Walked.{lent_call}
+use Rattle.grb_slices.proofs.Lists.{lent_call}
 use Rattle.grb_slices.proofs.NextTarget.{walked_further}
 use Rattle.grb_slices.proofs.targets.Targets.go_on.Goals as goal
 

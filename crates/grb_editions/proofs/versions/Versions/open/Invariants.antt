@@ -1,0 +1,9 @@
+use Rattle.std.proofs.Common.{◌≡◌, length}
+use Rattle.std.specs.Prelude.{vec_capacity}
+use Rattle.grb_editions.proofs.versions.Versions.open.Given as goal
+
+abbrev pub invariant-loop : goal.invariant-loop
+invariant-loop l = record {
+  count : length l.cells.items ≡ l.counter;
+  capacity : vec_capacity l.cells ≡ l.count;
+}

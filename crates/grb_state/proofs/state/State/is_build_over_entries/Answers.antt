@@ -1,6 +1,0 @@
-use Prim.{search}
-use Rattle.std.proofs.Common.{rules}
-use Rattle.grb_state.proofs.state.State.is_build_over_entries.Goals as goal
-
-pub returns-in-BuildVector : goal.returns-in-BuildVector
-returns-in-BuildVector c = search rules

@@ -1,6 +1,0 @@
-use Prim.{search}
-use Rattle.std.proofs.Common.{rules}
-use Rattle.grb_state.proofs.state.State.nvals_vector.Goals as goal
-
-pub returns : goal.returns
-returns c = search rules

@@ -1,0 +1,2 @@
+mod Living
+pub mod Applied

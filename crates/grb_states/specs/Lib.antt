@@ -1,0 +1,6 @@
+pub mod Live
+pub mod Objects
+pub mod Operation
+pub mod Settled
+pub mod State
+pub mod StoredIn
