@@ -6,8 +6,6 @@ use Rattle.grb_sparse.specs.Vector.{SparseVectorView}
 use Rattle.grb_call.specs.declared.call.Call.{Call}
 use Rattle.grb_call.specs.declared.call.Call.TheVariants as call
 use Rattle.grb_call.specs.declared.wait_mode.WaitMode.TheVariants.{Complete}
-use Rattle.grb_call.specs.declared.ids.MatrixId.{MatrixId}
-use Rattle.grb_call.specs.declared.ids.VectorId.{VectorId}
 use Rattle.grb_call.specs.History.{store_of}
 use Rattle.grb_call.specs.Store.{Store}
 use Rattle.grb_call.specs.Tuples.{tuples_of}
@@ -15,7 +13,8 @@ use Rattle.grb_rebuild.specs.Rebuilt.{monoid_for}
 use Rattle.grb_context.specs.Known.{known}
 use Rattle.grb_context.specs.Snapshot.{IsSnapshot}
 use Rattle.grb_context.specs.StoredIn.{IsMatrixOf, IsVectorOf}
-use Rattle.grb_c.specs.Codes.{refusal_code, uninitialized_object}
+use Rattle.grb_codes.specs.Codes.{refusal_code, uninitialized_object}
+use Rattle.grb_codes.specs.Named.{matrices_named, vectors_named}
 use Rattle.grb_c.specs.Handles.{Makes, are_none}
 use Rattle.grb_c.specs.Opening.{IsWithin}
 use Rattle.grb_generations.specs.Seated.{Seated}
@@ -35,13 +34,6 @@ pub record IsBranchAsked (room : ℕ) (hs : List TrbPass) (matrices vectors : Li
   pub within : IsWithin room (length hs)
   pub none : are_none hs ≡ true
   pub few : AreFew matrices vectors
-
--- the matrices, and the vectors, of these numbers
-abbrev pub matrices_named : List ℕ → List MatrixId
-matrices_named numbers = map (λ n. record { 0 = n }) numbers
-
-abbrev pub vectors_named : List ℕ → List VectorId
-vectors_named numbers = map (λ n. record { 0 = n }) numbers
 
 -- handles go on from the store of the objects of these numbers that a handle knows; or there is no pass
 abbrev pub GoesApartFrom : ℕ → ℕ → Option Opened → List ℕ → List ℕ → ℤ → ℕ → ℕ → List TrbPass → Type 0

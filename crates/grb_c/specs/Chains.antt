@@ -5,7 +5,7 @@ use Rattle.grb_generations.specs.Reasons.{IsNoGeneration, TakesSeat}
 use Rattle.grb_generations.specs.declared.reason.NoGeneration.{NoGeneration}
 use Rattle.grb_generations.specs.declared.reason.NoGeneration.TheVariants as none
 use Rattle.grb_generations.specs.Seated.{IsAtEnd, Moves, Seated, ShareTheFirst, Stays}
-use Rattle.grb_c.specs.Codes.{insufficient_space, invalid_value, no_value, order_full, out_of_memory, panic, success, uninitialized_object}
+use Rattle.grb_codes.specs.Codes.{insufficient_space, invalid_value, no_value, order_full, out_of_memory, panic, success, uninitialized_object}
 use Rattle.grb_c.specs.declared.session.Kind.{Kind}
 use Rattle.grb_c.specs.declared.session.Kind.TheVariants as kind
 use Rattle.grb_c.specs.Sessions.{Opened}

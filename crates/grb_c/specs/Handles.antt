@@ -5,10 +5,11 @@ use Rattle.grb_core.specs.declared.domain.Domain.TheVariants as domain
 use Rattle.grb_call.specs.declared.call.Call.{Call}
 use Rattle.grb_context.specs.Explains.{Answer}
 use Rattle.grb_c.specs.declared.handle.TrbPass.{TrbPass}
-use Rattle.grb_c.specs.Codes.{out_of_memory}
+use Rattle.grb_codes.specs.Codes.{out_of_memory}
 use Rattle.grb_c.specs.Sessions.{Does, Puts}
 use Rattle.grb_c.specs.Succession.{GoesOnFrom}
-use Rattle.grb_c.specs.Tuples.{ReadsAll, ReadsAllOfVector, bool_in, number_in}
+use Rattle.grb_codes.specs.Arrays.{bool_in, number_in}
+use Rattle.grb_c.specs.Tuples.{ReadsAll, ReadsAllOfVector}
 
 -- none of these has a pass
 abbrev pub are_none : List TrbPass → Bool

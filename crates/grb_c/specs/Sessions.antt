@@ -2,7 +2,6 @@
 use Rattle.std.specs.Prelude.{◌≡◌, ◌≤◌, length, ℕ, ℤ, ◌==◌, Bool, true, false, Option, Some, None, is_some, Result, Ok, Err}
 use Rattle.grb_core.specs.declared.refusal.Refusal.{Refusal}
 use Rattle.grb_core.specs.declared.refusal.Refusal.TheVariants.{UninitializedObject}
-use Rattle.grb_core.specs.declared.refusal.Info.{Info}
 use Rattle.grb_call.specs.declared.call.Call.{Call}
 use Rattle.grb_call.specs.declared.ids.Object.{Object}
 use Rattle.grb_order.specs.Order.{room_of}
@@ -16,7 +15,7 @@ use Rattle.grb_c.specs.Bounded.{InStore}
 use Rattle.grb_c.specs.Kinds.{IsEither, info_at, pass_at}
 use Rattle.grb_c.specs.declared.session.Kind.{Kind}
 use Rattle.grb_c.specs.declared.session.Kind.TheVariants as kind
-use Rattle.grb_c.specs.Codes.{done_code, info_code, invalid_value, met_code, no_value, success, uninitialized_object}
+use Rattle.grb_codes.specs.Codes.{TellsInfo, done_code, invalid_value, met_code, success, uninitialized_object}
 
 -- who makes the calls, and the number of the store or of the chain
 pub record Opened : Type 0 where
@@ -147,11 +146,7 @@ abbrev pub is_full_at : Kind → Bool
 is_full_at (kind.Bounded p) = length (known p.pass) == room_of p.pass.order
 is_full_at (kind.Member m) = is_some m.reason
 
--- what is told of the status of an object: it, or that there is none
-abbrev pub TellsInfo : Option Info → ℤ → ℤ → ℤ → Type 0
-TellsInfo (Some i) code before after = (code ≡ success) × (after ≡ info_code i)
-TellsInfo None code before after = (code ≡ no_value) × (after ≡ before)
-
+-- what is told of the status of an object, where there is a pass to tell of
 abbrev pub TellsInfoOf : Option Opened → Object → ℤ → ℤ → ℤ → Type 0
 TellsInfoOf (Some s) o code before after = TellsInfo (info_at s.kind o) code before after
 TellsInfoOf None o code before after = (code ≡ uninitialized_object) × (after ≡ before)

@@ -7,7 +7,7 @@ use Rattle.grb_rebuild.specs.declared.rebuild.NoSuccessor.TheVariants as no
 use Rattle.grb_context.specs.Known.{known}
 use Rattle.grb_context.specs.Chosen.{IsNoSuccessor, room_beside}
 use Rattle.grb_context.specs.Succeeding.{BeginsWith}
-use Rattle.grb_c.specs.Codes.{insufficient_space, invalid_value, out_of_memory, panic, success, uninitialized_object}
+use Rattle.grb_codes.specs.Codes.{insufficient_space, invalid_value, out_of_memory, panic, success, uninitialized_object}
 use Rattle.grb_c.specs.Opening.{AreHandedOut}
 use Rattle.grb_c.specs.Kinds.{is_member}
 use Rattle.grb_c.specs.declared.session.Kind.{Kind}

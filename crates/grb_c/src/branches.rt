@@ -1,43 +1,22 @@
 //! A store of its own that begins with some objects of another one.
-ghost use Rattle.std.specs.Prelude.{◌≡◌, ◌<◌, ◌^◌, false, true, IfOk, length, map};
-ghost use Rattle.grb_c.specs.Branching.{AreFew, GoesApartFrom, IsBranchAsked, matrices_named, vectors_named};
-ghost use Rattle.grb_c.specs.Codes.{invalid_value};
+ghost use Rattle.std.specs.Prelude.{◌≡◌, ◌<◌, ◌^◌, false, true, length, map};
+ghost use Rattle.grb_c.specs.Branching.{AreFew, GoesApartFrom, IsBranchAsked};
+ghost use Rattle.grb_codes.specs.Codes.{invalid_value};
+ghost use Rattle.grb_codes.specs.Named.{matrices_named, vectors_named};
 ghost use Rattle.grb_c.specs.Opening.{IsWithin};
 ghost use Rattle.grb_generations.specs.Seated.{Stays};
 ghost use Rattle.grb_c.specs.Kinds.{store_chosen};
 ghost use Rattle.grb_c.specs.Sessions.{Goes, IsSameButMade, IsSamePass};
 ghost use Rattle.grb_c.specs.Succession.{GoesOn};
 
-use crate::codes::{INVALID_VALUE, UNINITIALIZED_OBJECT};
 use crate::handle::TrbPass;
 use crate::open::{are_none, hand_out_context, is_within};
 use crate::session::Session;
 use crate::succession::put_needed;
 use grb_call::{MatrixId, VectorId};
+use grb_codes::{INVALID_VALUE, UNINITIALIZED_OBJECT, matrices_named, vectors_named};
 use grb_context::NoSuccessor;
-use std::alloc::{AllocError, Global};
-
-/// The matrices of these numbers. `AllocError` where memory is refused.
-fn matrices_named(alloc: Global, numbers: &[u32]) -> Result<Vec<MatrixId>, AllocError>
-    ensures { IfOk result (λ all. all.items ≡ matrices_named numbers.now) }
-{
-    let mut all = Vec::with_capacity(alloc, numbers.len())?;
-    'numbers: for at in 0..numbers.len() {
-        all.push(MatrixId(numbers[at]))?;
-    }
-    Ok(all)
-}
-
-/// The vectors of these numbers. `AllocError` where memory is refused.
-fn vectors_named(alloc: Global, numbers: &[u32]) -> Result<Vec<VectorId>, AllocError>
-    ensures { IfOk result (λ all. all.items ≡ vectors_named numbers.now) }
-{
-    let mut all = Vec::with_capacity(alloc, numbers.len())?;
-    'numbers: for at in 0..numbers.len() {
-        all.push(VectorId(numbers[at]))?;
-    }
-    Ok(all)
-}
+use std::alloc::Global;
 
 /// Whether each array has less than 2^32 numbers.
 fn are_few(matrices: &[u32], vectors: &[u32]) -> bool

@@ -4,9 +4,9 @@ ghost use Rattle.std.specs.Result.{result_map_both};
 ghost use Rattle.grb_rebuild.specs.Rebuilt.{monoid_for};
 ghost use Rattle.grb_c.specs.Branching.{BuildsHanded, BuildsMatrixFrom, BuildsVectorFrom, matrix_build_of, vector_build_of};
 
-use crate::codes::{UNINITIALIZED_OBJECT, refusal_code};
 use crate::handle::TrbPass;
 use grb_call::{Call, MatrixId, MatrixTuples, VectorId, VectorTuples};
+use grb_codes::{UNINITIALIZED_OBJECT, refusal_code};
 use grb_core::{Domain, Monoid, Refusal};
 use grb_sparse::{SparseMatrix, SparseVector};
 use std::alloc::Global;

@@ -1,18 +1,18 @@
 //! A chain of stores, which goes on by itself where the history of one is full.
 ghost use Rattle.std.specs.Prelude.{◌≡◌, ◌⊎◌, ◌++◌, ◌∷◌, [], false, true, MatchOption, None, Some, is_some, length, map};
 ghost use Rattle.grb_c.specs.Chains.{AreLinked, GoesOnBy, HaveFrom, KindTriesOn, SeatsFrom, SeatsMember, TellsGeneration, TellsGenerationOf, TriesOn, calls_out, no_generation_code};
-ghost use Rattle.grb_c.specs.Codes.{invalid_value, out_of_memory, success};
+ghost use Rattle.grb_codes.specs.Codes.{invalid_value, out_of_memory, success};
 ghost use Rattle.grb_c.specs.Handles.{are_none};
 ghost use Rattle.grb_c.specs.Opening.{IsWithin};
 ghost use Rattle.grb_c.specs.declared.session.Kind.TheVariants as Kind;
 
-use crate::codes::{
-    INSUFFICIENT_SPACE, INVALID_VALUE, NO_VALUE, ORDER_FULL, OUT_OF_MEMORY, PANIC, SUCCESS,
-    UNINITIALIZED_OBJECT,
-};
 use crate::handle::TrbPass;
 use crate::open::{are_none, is_within};
 use crate::session::{Kind, Session};
+use grb_codes::{
+    INSUFFICIENT_SPACE, INVALID_VALUE, NO_VALUE, ORDER_FULL, OUT_OF_MEMORY, PANIC, SUCCESS,
+    UNINITIALIZED_OBJECT,
+};
 use grb_generations::{Generations, Member, NoGeneration};
 use std::alloc::Global;
 

@@ -1,14 +1,14 @@
 //! What C keeps: a pass, or none.
 ghost use Rattle.std.specs.Prelude.{◌≡◌, ℕ, ℤ, None, Some, MatchOption, is_some};
 ghost use Rattle.grb_context.specs.Explains.{Answer};
-ghost use Rattle.grb_c.specs.Codes.{bool_code, bool_out, dims_code, dims_out, number_code, number_out, object_code, object_out};
+ghost use Rattle.grb_codes.specs.Codes.{bool_code, bool_out, dims_code, dims_out, number_code, number_out, object_code, object_out};
 ghost use Rattle.grb_c.specs.Sessions.{Made};
 
-use crate::codes::{done_code, put_bool, put_dims, put_number, put_object};
 use crate::parts::Parts;
 use crate::raw::Raw;
 use crate::session::Session;
 use grb_call::{Call, Reply};
+use grb_codes::{done_code, put_bool, put_dims, put_number, put_object};
 use grb_core::Refusal;
 use std::alloc::Global;
 use std::mem::replace;

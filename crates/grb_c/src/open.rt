@@ -2,16 +2,16 @@
 ghost use Rattle.std.specs.Prelude.{◌≡◌, ◌⊎◌, ◌++◌, ◌∷◌, [], true, false, All, None, Some, IfSome, MatchOption, length, map, slice_get};
 ghost use Rattle.grb_order.specs.Order.{room_of};
 ghost use Rattle.grb_context.specs.Known.{IsPassOf};
-ghost use Rattle.grb_c.specs.Codes.{invalid_value, out_of_memory, success};
+ghost use Rattle.grb_codes.specs.Codes.{invalid_value, out_of_memory, success};
 ghost use Rattle.grb_c.specs.Handles.{are_none};
 ghost use Rattle.grb_c.specs.Opening.{AreOpened, HoldFrom, IsWithin};
 ghost use Rattle.grb_c.specs.declared.session.Kind.TheVariants as Kind;
 ghost use Rattle.grb_c.specs.Sessions.{AreApart, Meets, Prepares, Releases, facts_code};
 
 use crate::bounded::Bounded;
-use crate::codes::{INVALID_VALUE, OUT_OF_MEMORY, SUCCESS, UNINITIALIZED_OBJECT};
 use crate::handle::TrbPass;
 use crate::session::{Kind, Session};
+use grb_codes::{INVALID_VALUE, OUT_OF_MEMORY, SUCCESS, UNINITIALIZED_OBJECT};
 use grb_context::{Context, MOST_PASSES, MOST_ROOM, MOST_SEATS, Pass};
 use std::alloc::Global;
 use std::sync::Arc;

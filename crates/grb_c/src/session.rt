@@ -15,8 +15,8 @@ ghost use Rattle.grb_c.specs.Opening.{IsWithin};
 ghost use Rattle.grb_c.specs.Sessions.{AreOfOne, Goes, IsSamePass, KindsMeet, MadeBy, MeetsMember, is_full_at, pass_of, released};
 
 use crate::bounded::Bounded;
-use crate::codes::{INVALID_VALUE, met_code};
 use grb_call::{Call, MatrixId, Object, Reply, VectorId};
+use grb_codes::{INVALID_VALUE, met_code};
 use grb_context::{Context, NoSuccessor, Pass};
 use grb_core::{Info, Refusal};
 use grb_generations::Member;

@@ -3,7 +3,7 @@ ghost use Rattle.std.specs.Prelude.{◌≡◌, ◌==◌, false, true, MatchOptio
 ghost use Rattle.grb_order.specs.Order.{room_of};
 ghost use Rattle.grb_call.specs.History.{store_of};
 ghost use Rattle.grb_context.specs.Known.{known};
-ghost use Rattle.grb_c.specs.Codes.{invalid_value};
+ghost use Rattle.grb_codes.specs.Codes.{invalid_value};
 ghost use Rattle.grb_c.specs.Handles.{Succeeds, are_none};
 ghost use Rattle.grb_generations.specs.Seated.{Stays};
 ghost use Rattle.grb_c.specs.Kinds.{is_member};
@@ -12,12 +12,12 @@ ghost use Rattle.grb_c.specs.Sessions.{Goes, IsSameButMade, IsSamePass, facts_co
 ghost use Rattle.grb_c.specs.Succession.{GoesOn, GoesOnFromKind, IsLinked, needed_out, no_successor_code};
 
 use crate::bounded::Bounded;
-use crate::codes::{
-    INSUFFICIENT_SPACE, INVALID_VALUE, OUT_OF_MEMORY, PANIC, SUCCESS, UNINITIALIZED_OBJECT,
-};
 use crate::handle::TrbPass;
 use crate::open::{are_none, hand_out_context, is_within};
 use crate::session::{Kind, Session};
+use grb_codes::{
+    INSUFFICIENT_SPACE, INVALID_VALUE, OUT_OF_MEMORY, PANIC, SUCCESS, UNINITIALIZED_OBJECT,
+};
 use grb_context::NoSuccessor;
 use std::alloc::Global;
 

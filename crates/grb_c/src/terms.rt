@@ -1,14 +1,14 @@
 //! Operations on the entries of one object, and kronecker.
 ghost use Rattle.grb_core.specs.declared.value.Value.TheVariants.{Bool, Uint64};
-ghost use Rattle.grb_c.specs.Calls.{apply_first_matrix, apply_first_vector, apply_matrix, apply_second_matrix, apply_second_vector, apply_vector, kronecker, select_matrix, select_values_matrix, select_values_vector, select_vector, transpose};
+ghost use Rattle.grb_codes.specs.Calls.{apply_first_matrix, apply_first_vector, apply_matrix, apply_second_matrix, apply_second_vector, apply_vector, kronecker, select_matrix, select_values_matrix, select_values_vector, select_vector, transpose};
 ghost use Rattle.grb_c.specs.Handles.{Makes};
 
-use crate::decode::{
+use crate::handle::TrbPass;
+use grb_codes::{
     Given, apply_first_matrix, apply_first_vector, apply_matrix, apply_second_matrix,
     apply_second_vector, apply_vector, kronecker, select_matrix, select_values_matrix,
     select_values_vector, select_vector, transpose,
 };
-use crate::handle::TrbPass;
 use grb_core::Value;
 use std::alloc::Global;
 

@@ -2,7 +2,7 @@ use Rattle.std.proofs.Common.{◌≡◌, ◌∙◌, ◌-◌, ◌++◌, ◌∷◌
 use Rattle.std.specs.Prelude.{MatchOption, slice_get}
 use Rattle.grb_generations.specs.Seated.{Seated}
 use Rattle.grb_c.specs.Chains.{HasMember}
-use Rattle.grb_c.specs.Codes.{success}
+use Rattle.grb_codes.specs.Codes.{success}
 use Rattle.grb_c.proofs.Opening.{at_set, get_last, get_left}
 use Rattle.grb_c.proofs.chains.seat_all.Goals as goal
 

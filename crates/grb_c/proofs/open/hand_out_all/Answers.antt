@@ -1,7 +1,7 @@
 use Rattle.std.proofs.Common.{◌≡◌, ◌∙◌, ◌-◌, ◌++◌, ◌∷◌, [], suc, ℕ, List, Option, Some, None, length, refl, subst, sym, ap, arith, length-append, length-set}
 use Rattle.std.specs.Prelude.{MatchOption, slice_get}
 use Rattle.grb_context.specs.Known.{Knowing}
-use Rattle.grb_c.specs.Codes.{success}
+use Rattle.grb_codes.specs.Codes.{success}
 use Rattle.grb_c.specs.Opening.{Holds}
 use Rattle.grb_c.proofs.Opening.{at_set, get_last, get_left}
 use Rattle.grb_c.proofs.open.hand_out_all.Goals as goal

@@ -4,7 +4,7 @@ use Rattle.std.proofs.lemmas.List.{length-map}
 use Rattle.std.specs.Prelude.{map, slice_get, slice_index_or}
 use Rattle.grb_order.specs.View.{fresh}
 use Rattle.grb_context.specs.Known.{AreNew, Knowing, Shared}
-use Rattle.grb_c.specs.Codes.{success}
+use Rattle.grb_codes.specs.Codes.{success}
 use Rattle.grb_c.specs.Opening.{new_pass}
 use Rattle.grb_c.specs.Sessions.{Opened}
 use Rattle.grb_c.proofs.Opening.{held_as}

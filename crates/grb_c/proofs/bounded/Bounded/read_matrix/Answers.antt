@@ -7,8 +7,9 @@ use Rattle.grb_context.specs.Answered.{Answered}
 use Rattle.grb_context.specs.Explains.{Answer}
 use Rattle.grb_context.specs.Known.{Knowing, Shared}
 use Rattle.grb_context.proofs.Waited.{left_matrix}
+use Rattle.grb_codes.specs.Arrays.{PutsMatrix}
 use Rattle.grb_c.specs.Bounded.{InStore}
-use Rattle.grb_c.specs.Tuples.{PutsMatrix, ReadsMatrix}
+use Rattle.grb_c.specs.Tuples.{ReadsMatrix}
 use Rattle.grb_c.proofs.bounded.Bounded.read_matrix.Goals.{in-Ok+in-Some, in-Err}
 use Rattle.grb_c.proofs.bounded.Bounded.read_matrix.Goals as goal
 

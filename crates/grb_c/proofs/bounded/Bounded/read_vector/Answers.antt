@@ -7,8 +7,9 @@ use Rattle.grb_context.specs.Answered.{Answered}
 use Rattle.grb_context.specs.Explains.{Answer}
 use Rattle.grb_context.specs.Known.{Knowing, Shared}
 use Rattle.grb_context.proofs.Waited.{left_vector}
+use Rattle.grb_codes.specs.Arrays.{PutsVector}
 use Rattle.grb_c.specs.Bounded.{InStore}
-use Rattle.grb_c.specs.Tuples.{PutsVector, ReadsVector}
+use Rattle.grb_c.specs.Tuples.{ReadsVector}
 use Rattle.grb_c.proofs.bounded.Bounded.read_vector.Goals.{in-Ok+in-Some, in-Err}
 use Rattle.grb_c.proofs.bounded.Bounded.read_vector.Goals as goal
 

@@ -1,8 +1,0 @@
-use Rattle.std.proofs.Common.{◌∙◌, ap, sym}
-use Rattle.std.specs.Prelude.{map}
-use Rattle.grb_c.specs.Tuples.{bool_in}
-use Rattle.grb_c.proofs.RowsWritten.{bools_back}
-use Rattle.grb_c.proofs.item.BoolItem.of_vector.Goals as goal
-
-pub returns : goal.returns
-returns c = sym (bools_back c.bools.result.now) ∙ ap (map bool_in) c.bools.ensures

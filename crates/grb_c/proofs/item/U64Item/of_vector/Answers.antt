@@ -1,8 +1,0 @@
-use Rattle.std.proofs.Common.{◌∙◌, ap, sym}
-use Rattle.std.specs.Prelude.{map}
-use Rattle.grb_c.specs.Tuples.{number_in}
-use Rattle.grb_c.proofs.RowsWritten.{numbers_back}
-use Rattle.grb_c.proofs.item.U64Item.of_vector.Goals as goal
-
-pub returns : goal.returns
-returns c = sym (numbers_back c.numbers.result.now) ∙ ap (map number_in) c.numbers.ensures
