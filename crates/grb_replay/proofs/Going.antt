@@ -3,6 +3,7 @@ use Rattle.std.proofs.Common.{◌≡◌, ℕ, zero, suc, ◌<◌, Bool, true, fa
 use Rattle.grb_replay.proofs.Prelude.{option_map_or, Call, Object, ObjectShapes, shapes_after, output_of, Store, shapes_of, with_place, after, after_all, shapes_of-after, Contents, content_at, effective_target, outcome, Step, Entry, Make, Wants, entries, evaluated, sliced, wants_before, with_content, steps_of, is_chosen, wants_before_entry, Follows, GoesOn, HasGoneOver, part_after, targets_of}
 use Rattle.grb_slices.proofs.Lists.{take_all}
 use Rattle.grb_replay.proofs.Followed.{follows_next, made_there, placed_same, same_wants, taken_there}
+use Rattle.grb_replay.proofs.Places.{drop_end}
 use Rattle.grb_replay.proofs.Walked.{sliced_before}
 
 first_of : {X : Type 0} (x y : X) (xs ys : List X) → ◌≡◌ {A = List X} (x ∷ xs) (y ∷ ys) → x ≡ y
@@ -62,17 +63,13 @@ goes_target w s part cs ts bs k c t within same_t ec et goes =
     let here_t : drop k ts ≡ t ∷ drop (suc k) ts = drop_at ts k t (omega (arith, within, same_t)) ∙ ap (λ x. x ∷ drop (suc k) ts) et in
     first_of t (effective_target u c) (drop (suc k) ts) (targets_of (shapes_after u c) (drop (suc k) cs)) (sym here_t ∙ (goes.targets_are ∙ ap (targets_of u) here_c))
 
-pub drop_all : {X : Type 0} (xs : List X) (n : ℕ) → n ≡ length xs → drop n xs ≡ []
-drop_all [] n e = ap (λ m. drop m []) e
-drop_all (x ∷ xs) n e = ap (λ m. drop m (x ∷ xs)) e ∙ drop_all xs (length xs) refl
-
 -- at the end of the lists the part holds what was wanted
 pub goes_end : (w : Wants) (s part : Store) (cs : List Call) (ts : List (Option Object)) (bs : List Bool) (n : ℕ) → n ≡ length cs → length ts ≡ length cs →
     GoesOn w (after_all s (take n cs)) (drop n cs) (drop n ts) (drop n bs) part → Follows w (after_all s cs) part
 goes_end w s part cs ts bs n e same goes =
     subst (λ (x : List Call). Follows w (after_all s x) part) (take_all cs n e)
     (subst (λ (x : List Step). Follows (sliced w x).wanted (after_all s (take n cs)) part)
-    (ap (λ (x : List Call). entries (drop n ts) x) (drop_all cs n e) ∙ ap (λ (x : List (Option Object)). entries x []) (drop_all ts n (e ∙ sym same))) goes.follows)
+    (ap (λ (x : List Call). entries (drop n ts) x) (drop_end cs n e) ∙ ap (λ (x : List (Option Object)). entries x []) (drop_end ts n (e ∙ sym same))) goes.follows)
 
 -- what the part holds goes over, by the elements of the slice to come, into what is to be held at the end
 abbrev pub HasCome : Wants → Contents → List (Option Object) → List Call → Store → Type 0
@@ -136,7 +133,7 @@ pub has_gone_over : (w : Wants) (s old new : Store) (cs : List Call) (ts : List 
 has_gone_over w s old new cs ts bs n e same goes come = record {
   follows = goes_end w s new cs ts bs n e same goes;
   slice =
-      let none : entries (drop n ts) (drop n cs) ≡ [] = ap (λ (x : List Call). entries (drop n ts) x) (drop_all cs n e) ∙ ap (λ (x : List (Option Object)). entries x []) (drop_all ts n (e ∙ sym same)) in
+      let none : entries (drop n ts) (drop n cs) ≡ [] = ap (λ (x : List Call). entries (drop n ts) x) (drop_end cs n e) ∙ ap (λ (x : List (Option Object)). entries x []) (drop_end ts n (e ∙ sym same)) in
       let held : content_at new ≡ evaluated (content_at old) (sliced w (entries ts cs)).elements = subst (λ (x : List Step). evaluated (content_at new) (sliced w x).elements ≡ evaluated (content_at old) (sliced w (entries ts cs)).elements) none come in
       λ o. ap (λ (r : Contents). r o) held;
 }

@@ -17,7 +17,6 @@ pub use Rattle.grb_slices.specs.Content.{Contents, MatrixContent, VectorContent,
 pub use Rattle.grb_slices.specs.Slice.{Entry, Make, Step, Wants, choices, entries, evaluated, is_among, sliced, wants_before, with_content}
 pub use Rattle.grb_slices.specs.Steps.{AgreeOn, steps_of}
 pub use Rattle.grb_slices.specs.Targets.{targets_of}
-pub use Rattle.std.proofs.lemmas.List.{get_or-drop}
 pub use Rattle.std.specs.Option.{option_map_or}
 pub use Rattle.std.specs.Prelude.{slice_get}
-pub use lib.ListN.{length-drop, length-map}
+pub use lib.ListN.{length-map}

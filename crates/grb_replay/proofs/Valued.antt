@@ -1,5 +1,5 @@
 -- The object after all calls, and which of them were made for it.
-use Rattle.std.proofs.Common.{◌≡◌, is_some, option_map, refl, if◌then◌else◌, Bool, false, true, List, length, sym, ap, ◌∙◌, Option, Some, None, ℕ}
+use Rattle.std.proofs.Common.{◌≡◌, is_some, option_map, refl, if◌then◌else◌, Bool, false, true, List, length, sym, ap, subst, ◌∙◌, Option, Some, None, ℕ}
 use Rattle.grb_call.specs.declared.call.Call.{Call}
 use Rattle.grb_call.specs.declared.ids.Object.{Object}
 use Rattle.grb_call.specs.declared.ids.Object.TheVariants as object
@@ -11,11 +11,10 @@ use Rattle.grb_call.specs.History.{after_all}
 use Rattle.grb_slices.specs.Content.{MatrixContent, VectorContent, content_at}
 use Rattle.grb_replay.specs.declared.slice.Slice.{Slice}
 use Rattle.grb_replay.specs.SliceFor.{IsSliceFor}
-use Rattle.grb_slices.specs.Slice.{Step, Wants, entries, sliced}
-use Rattle.grb_replay.specs.Wanted.{is_wanted}
+use Rattle.grb_slices.specs.Slice.{Step, Wants, choices, entries, sliced}
 use Rattle.grb_replay.specs.Held.{slice_of, slice_length}
 use Rattle.grb_replay.specs.Followed.{Follows, GoesOn, HasGoneOver}
-use Rattle.grb_slices.specs.Targets.{targets_of}
+use Rattle.grb_slices.specs.Targets.{WalkedCalls, targets_of}
 use Rattle.grb_replay.proofs.Going.{entries_are}
 
 -- the elements of the slice of one object, which is all that is wanted
@@ -34,23 +33,22 @@ pub not_there : (s : Store) (o : Object) → is_live (shapes_of s) o ≡ false �
 not_there s (object.Matrix a) e = none_of matrix_shape MatrixContent (matrix_at s a) (sym (ap is_some (object_at-map matrix_shape s.matrices a.0)) ∙ e)
 not_there s (object.Vector v) e = none_of vector_shape VectorContent (vector_at s v) (sym (ap is_some (object_at-map vector_shape s.vectors v.0)) ∙ e)
 
--- a part that holds more
-pub narrowed : (v w : Wants) (whole part : Store) → ((p : Object) → w p ≡ true → v p ≡ true) → Follows v whole part → Follows w whole part
-narrowed v w whole part sub f = record { matrices = f.matrices; vectors = f.vectors; agree = λ o is. f.agree o (sub o is) }
-
 -- an equal store
-pub follows_same : (w : Wants) (whole part : Store) → part ≡ whole → Follows w whole part
+follows_same : (w : Wants) (whole part : Store) → part ≡ whole → Follows w whole part
 follows_same w whole part e = record { matrices = ap (λ (s : Store). length s.matrices) e; vectors = ap (λ (s : Store). length s.vectors) e; agree = λ o is. ap (λ (s : Store). content_at s o) (sym e) }
 
--- what is wanted after the calls, where the part holds what their slice wants before them
-module _ (v w : Wants) (cs : List Call) (ts : List (Option Object)) (bs : List Bool) (slice : Slice) (found : IsSliceFor slice w ts cs) (whole part made : Store)
-    (targets : ts ≡ targets_of (shapes_of whole) cs) (chosen : bs ≡ slice.chosen.items) (goes : (u : Wants) (s : Store) → GoesOn u s cs ts bs part → HasGoneOver u s cs ts part made) where
-  pub goes_over : ((p : Object) → is_wanted slice.wanted p ≡ true → v p ≡ true) → Follows v whole part → HasGoneOver w whole cs ts part made
-  goes_over sub follows = goes w whole (record {
-    targets_are = targets;
-    chosen_are = chosen ∙ found.chosen;
-    follows = narrowed v (sliced w (entries ts cs)).wanted whole part (λ p is. sub p (found.wanted p ∙ is)) follows;
-  })
+-- the slice of what is wanted, gone over on an equal store
+pub goes_over : (w : Wants) (cs : List Call) (walk now : WalkedCalls) (bs : List Bool) (slice : Slice) (whole part made : Store) → IsSliceFor slice w walk.targets cs →
+    walk.targets ≡ targets_of (shapes_of whole) cs → now ≡ walk → bs ≡ slice.chosen.items → part ≡ whole →
+    ((u : Wants) (s : Store) → GoesOn u s cs now.targets bs part → HasGoneOver u s cs now.targets part made) → HasGoneOver w whole cs walk.targets whole made
+goes_over w cs walk now bs slice whole part made found targets same chosen equal goes =
+    subst (λ (t : WalkedCalls). HasGoneOver w whole cs t.targets whole made) same
+    (subst (λ (r : Store). HasGoneOver w whole cs now.targets r made) equal
+    (goes w whole (record {
+      targets_are = ap (λ (t : WalkedCalls). t.targets) same ∙ targets;
+      chosen_are = chosen ∙ (found.chosen ∙ ap (λ (t : WalkedCalls). choices w (entries t.targets cs)) (sym same));
+      follows = follows_same (sliced w (entries now.targets cs)).wanted whole part equal;
+    })))
 
 -- how many calls were made
 pub length_none : (s : Store) (o : Object) (cs : List Call) (u : ObjectShapes) → u ≡ shapes_of (after_all s cs) → is_live u o ≡ false → 0 ≡ slice_length s o cs

@@ -1,18 +1,12 @@
 -- The walk back over entries: one step of it, and where it begins.
-use Rattle.std.proofs.Common.{◌≡◌, ℕ, zero, suc, ◌+◌, ◌-◌, ◌<◌, ◌≤◌, Bool, true, false, ◌||◌, if◌then◌else◌, List, [], ◌∷◌, refl, sym, ap, ◌∙◌, arith, length, drop, get_or, set, Option, Some, None}
-use Rattle.grb_replay.proofs.Prelude.{slice_get, option_map_or, get_or-drop, Call, Object, Step, Entry, Make, Wants, wants_before, choices, entries, sliced, is_chosen, wants_before_entry}
-use Rattle.std.proofs.lemmas.Option.{get_or_from_slice_get}
+use Rattle.std.proofs.Common.{◌≡◌, ℕ, zero, suc, ◌+◌, ◌<◌, ◌≤◌, Bool, true, false, ◌||◌, if◌then◌else◌, List, [], ◌∷◌, refl, sym, ap, ◌∙◌, arith, length, drop, get_or, set, Option, Some, None}
+use Rattle.grb_replay.proofs.Prelude.{slice_get, option_map_or, Call, Object, Step, Entry, Make, Wants, wants_before, choices, entries, sliced, is_chosen, wants_before_entry}
+use Rattle.grb_replay.proofs.Places.{drop_end}
 
--- lists
-module _ {X : Type 0} where
-  drop-length : (xs : List X) → drop (length xs) xs ≡ []
-  drop-length [] = refl
-  drop-length (x ∷ xs) = drop-length xs
-
-  drop-set : (xs : List X) (k : ℕ) (x : X) → k < length xs → drop k (set xs k x) ≡ x ∷ drop (suc k) xs
-  drop-set [] k x h = absurd (omega arith)
-  drop-set (y ∷ xs) zero x h = refl
-  drop-set (y ∷ xs) (suc k) x h = drop-set xs k x (omega arith)
+drop-set : {X : Type 0} (xs : List X) (k : ℕ) (x : X) → k < length xs → drop k (set xs k x) ≡ x ∷ drop (suc k) xs
+drop-set [] k x h = absurd (omega arith)
+drop-set (y ∷ xs) zero x h = refl
+drop-set (y ∷ xs) (suc k) x h = drop-set xs k x (omega arith)
 
 -- what is wanted before an entry, and whether it is chosen, are matters of what is wanted after it
 pub sliced_before : (w : Wants) (t : Option Object) (c : Call) (xs : List Step) (p : Object) →
@@ -55,7 +49,7 @@ entries_at [] (d ∷ cs) k c same h e = absurd (omega (arith, same))
 entries_at (t ∷ ts) (d ∷ cs) zero c same h e = ap (λ b. Entry t b ∷ entries ts cs) e
 entries_at (t ∷ ts) (d ∷ cs) (suc k) c same h e = entries_at ts cs k c (omega (arith, same)) (omega arith) e
 
-pub entries-length : (ts : List (Option Object)) (cs : List Call) → length ts ≡ length cs → length (entries ts cs) ≡ length cs
+entries-length : (ts : List (Option Object)) (cs : List Call) → length ts ≡ length cs → length (entries ts cs) ≡ length cs
 entries-length [] [] same = refl
 entries-length [] (c ∷ cs) same = absurd (omega (arith, same))
 entries-length (t ∷ ts) [] same = absurd (omega (arith, same))
@@ -67,14 +61,14 @@ pub record IsWalked (w : Wants) (xs : List Step) (at : ℕ) (chosen : List Bool)
   pub chosen_is : drop at chosen ≡ choices w (drop at xs)
   pub wanted_is : (p : Object) → wanted p ≡ (sliced w (drop at xs)).wanted p
 
-pub walk_begins : (w v : Wants) (ts : List (Option Object)) (cs : List Call) (chosen : List Bool) → length ts ≡ length cs → length chosen ≡ length cs → ((p : Object) → v p ≡ w p) →
-    IsWalked w (entries ts cs) (length cs) chosen 0 v
-walk_begins w v ts cs chosen same count wanted =
-    let none : drop (length cs) (entries ts cs) ≡ [] = ap (λ n. drop n (entries ts cs)) (sym (entries-length ts cs same)) ∙ drop-length (entries ts cs) in
+pub walk_begins : (w : Wants) (ts : List (Option Object)) (cs : List Call) (chosen : List Bool) (n : ℕ) → n ≡ length cs → length ts ≡ length cs → length chosen ≡ n →
+    IsWalked w (entries ts cs) n chosen 0 w
+walk_begins w ts cs chosen n end same count =
+    let none : drop n (entries ts cs) ≡ [] = drop_end (entries ts cs) n (end ∙ sym (entries-length ts cs same)) in
     record {
       count_is = sym (ap (λ (ys : List Step). length (sliced w ys).elements) none);
-      chosen_is = ap (λ n. drop n chosen) (sym count) ∙ (drop-length chosen ∙ sym (ap (choices w) none));
-      wanted_is = λ p. wanted p ∙ sym (ap (λ (ys : List Step). (sliced w ys).wanted p) none);
+      chosen_is = drop_end chosen n (sym count) ∙ sym (ap (choices w) none);
+      wanted_is = λ p. sym (ap (λ (ys : List Step). (sliced w ys).wanted p) none);
     }
 
 pub walk_goes : (w v u : Wants) (ts : List (Option Object)) (cs : List Call) (k : ℕ) (c : Call) (chosen : List Bool) (n : ℕ) (b : Bool) → length ts ≡ length cs → k < length cs → length chosen ≡ length cs →
@@ -103,10 +97,6 @@ pub call_there : (cs : List Call) (n : ℕ) → n < length cs → (c : Call) × 
 call_there [] n h = absurd (omega arith)
 call_there (c ∷ cs) zero h = (c, refl)
 call_there (c ∷ cs) (suc n) h = call_there cs n (omega arith)
-
--- and at that place of what stands after an earlier one
-pub call_in_rest : (cs : List Call) (from at : ℕ) (c : Call) → from ≤ at → slice_get cs at ≡ Some c → get_or (drop from cs) (at - from) c ≡ c
-call_in_rest cs from at c le is = get_or-drop from cs (at - from) c ∙ (ap (λ (n : ℕ). get_or cs n c) (omega (arith, le)) ∙ get_or_from_slice_get cs at c c is)
 
 pub or_nothing : (a b : Bool) → b ≡ false → (a || b) ≡ a
 or_nothing true b e = refl

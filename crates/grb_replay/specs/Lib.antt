@@ -1,6 +1,5 @@
 pub mod Followed
 pub mod Held
-pub mod Partial
 pub mod SliceFor
 pub mod Wanted
 pub use Rattle.grb_objects.specs.Stored

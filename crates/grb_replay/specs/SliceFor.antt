@@ -1,10 +1,9 @@
 -- inside: no public contract names it. The slice that a walk back over calls finds, for what is wanted after them (own).
-use Rattle.std.specs.Prelude.{◌≡◌, ℕ, ◌≤◌, List, drop, length, Option}
+use Rattle.std.specs.Prelude.{◌≡◌, ◌≤◌, List, length, Option}
 use Rattle.grb_call.specs.declared.call.Call.{Call}
 use Rattle.grb_call.specs.declared.ids.Object.{Object}
 use Rattle.grb_replay.specs.declared.slice.Slice.{Slice}
 use Rattle.grb_slices.specs.Slice.{Wants, choices, entries, sliced}
-use Rattle.grb_replay.specs.Wanted.{is_wanted}
 
 -- the slice is that of these calls, with these targets, for what is wanted after them
 pub record IsSliceFor (slice : Slice) (w : Wants) (targets : List (Option Object)) (cs : List Call) : Type 0 where
@@ -12,8 +11,3 @@ pub record IsSliceFor (slice : Slice) (w : Wants) (targets : List (Option Object
   pub chosen : slice.chosen.items ≡ choices w (entries targets cs)
   pub count : slice.count ≡ length (sliced w (entries targets cs)).elements
   pub few : slice.count ≤ length cs
-  pub wanted : (p : Object) → is_wanted slice.wanted p ≡ (sliced w (entries targets cs)).wanted p
-
--- the same of the calls from a place on
-abbrev pub IsSliceFrom : ℕ → Slice → Wants → List (Option Object) → List Call → Type 0
-IsSliceFrom from slice w targets cs = IsSliceFor slice w (drop from targets) (drop from cs)

@@ -7,7 +7,6 @@
 #![tactic(auto)]
 
 mod making;
-mod partial_store;
 mod slice;
 mod value;
 mod wanted;

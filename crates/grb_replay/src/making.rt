@@ -1,5 +1,5 @@
 //! Calls that are made on a state one by one, with a place for each object that is passed over.
-ghost use Rattle.std.specs.Prelude.{◌≡◌, ◌+◌, ◌<◌, ◌≤◌, false, true, Some, drop, length, slice_get, OnOk, OnErr};
+ghost use Rattle.std.specs.Prelude.{◌≡◌, ◌+◌, ◌<◌, ◌≤◌, false, true, Some, length, slice_get, OnOk};
 ghost use Rattle.grb_call.specs.declared.call.Call.{Call};
 ghost use Rattle.grb_call.specs.Store.{Store, shapes_of};
 ghost use Rattle.grb_slices.specs.Content.{effective_target};
@@ -62,28 +62,27 @@ fn make_one<S, C: CallList<S>>(
     Ok(())
 }
 
-/// Makes, of the calls from a place on, which come one after another on a whole store, those that were chosen, on a state that holds of it
-/// what is wanted before them; after them the state holds what is wanted then, as the whole store does after all of them, and no other call
-/// has changed it. `AllocError` where memory is refused; what the state holds then, no clause says.
+/// Makes, of calls that come one after another on a whole store, those that were chosen, on a state that holds of it what is wanted before
+/// them; after them the state holds what is wanted then, as the whole store does after all of them, and no other call has changed it.
+/// `AllocError` where memory is refused; what the state holds then, no clause says.
 pub(crate) fn make_chosen<S, C: CallList<S>>(
     state: &mut State,
     calls: &mut C,
     source: &S,
-    from: usize,
     chosen: &[bool],
 ) -> Result<(), AllocError>
     requires held { C.is_in source.now calls.old }
     requires targets { length (C.target_list calls.old) ≡ length (C.calls source.now calls.old) }
-    requires chosen { from + length chosen.now ≡ length (C.calls source.now calls.old) }
+    requires chosen { length chosen.now ≡ length (C.calls source.now calls.old) }
     requires room { length chosen.now ≤ state.old.room }
     ensures same { calls.new ≡ calls.old }
     ensures room { OnOk result (state.old.room ≤ state.new.room + length chosen.now) }
-    ensures over { OnOk result ((w : Wants) (whole : Store) → GoesOn w whole (drop from (C.calls source.now calls.old)) (drop from (C.target_list calls.old)) chosen.now state.old.store
-        → HasGoneOver w whole (drop from (C.calls source.now calls.old)) (drop from (C.target_list calls.old)) state.old.store state.new.store) }
+    ensures over { OnOk result ((w : Wants) (whole : Store) → GoesOn w whole (C.calls source.now calls.old) (C.target_list calls.old) chosen.now state.old.store
+        → HasGoneOver w whole (C.calls source.now calls.old) (C.target_list calls.old) state.old.store state.new.store) }
 {
-    'places: for at in from..calls.targets().len() {
+    'places: for at in 0..calls.targets().len() {
         let target = calls.targets()[at];
-        make_one(state, target, calls, source, at, chosen[at - from])?;
+        make_one(state, target, calls, source, at, chosen[at])?;
     }
     Ok(())
 }

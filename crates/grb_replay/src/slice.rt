@@ -1,8 +1,8 @@
 //! The calls that one answer needs, chosen from the last call back to the first.
-ghost use Rattle.std.specs.Prelude.{◌≡◌, ◌+◌, ◌<◌, ◌≤◌, ◌^◌, ℕ, Some, if◌then◌else◌, length, slice_get, IfOk, OnOk};
+ghost use Rattle.std.specs.Prelude.{◌≡◌, ◌+◌, ◌<◌, ◌^◌, Some, if◌then◌else◌, length, slice_get, IfOk, OnOk};
 ghost use Rattle.grb_call.specs.declared.call.Call.{Call};
 ghost use Rattle.grb_call.specs.declared.ids.Object.{Object};
-ghost use Rattle.grb_replay.specs.SliceFor.{IsSliceFrom};
+ghost use Rattle.grb_replay.specs.SliceFor.{IsSliceFor};
 ghost use Rattle.grb_replay.specs.Wanted.{is_chosen, is_wanted, wants_before_entry};
 
 use crate::wanted::Wanted;
@@ -17,8 +17,6 @@ pub(crate) struct Slice {
     pub chosen: Vec<bool>,
     /// How many calls the object depends on.
     pub count: usize,
-    /// The objects that are wanted before the first call.
-    pub wanted: Wanted,
 }
 
 /// One more, where it is chosen.
@@ -53,36 +51,30 @@ fn go_back_at<S, C: CallList<S>>(
     wanted.go_back(target, calls.call_at(source, at))
 }
 
-/// The calls from a place on that what is wanted after the last depends on. `AllocError` where memory is refused; then `wanted` is dropped.
+/// The calls that what is wanted after the last depends on. `AllocError` where memory is refused; then `wanted` is dropped.
 ///
 /// Source: Weiser, "Program slicing", 1981; over calls own.
 pub(crate) fn slice_for<S, C: CallList<S>>(
     alloc: Global,
     calls: &mut C,
     source: &S,
-    from: usize,
     wanted: Wanted,
 ) -> Result<Slice, AllocError>
     requires held { C.is_in source.now calls.old }
     requires targets { length (C.target_list calls.old) ≡ length (C.calls source.now calls.old) }
-    requires from { from ≤ length (C.calls source.now calls.old) }
     ensures same { calls.new ≡ calls.old }
-    ensures slice { IfOk result (λ s. IsSliceFrom from s (is_wanted wanted) (C.target_list calls.old) (C.calls source.now calls.old)) }
+    ensures slice { IfOk result (λ s. IsSliceFor s (is_wanted wanted) (C.target_list calls.old) (C.calls source.now calls.old)) }
 {
     let mut wanted = wanted;
     let mut at = calls.targets().len();
-    let mut chosen = vec![in alloc; false; at - from]?;
+    let mut chosen = vec![in alloc; false; at]?;
     let mut count = 0;
-    'back: while at > from {
+    'back: while at > 0 {
         at -= 1;
         let target = calls.targets()[at];
         let is_chosen = go_back_at(&mut wanted, target, calls, source, at)?;
-        chosen[at - from] = is_chosen;
+        chosen[at] = is_chosen;
         count = counted(count, is_chosen);
     }
-    Ok(Slice {
-        chosen,
-        count,
-        wanted,
-    })
+    Ok(Slice { chosen, count })
 }

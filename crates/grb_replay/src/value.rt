@@ -3,7 +3,7 @@ ghost use Rattle.std.specs.Prelude.{◌≡◌, ◌+◌, ◌<◌, ◌^◌, true, 
 ghost use Rattle.std.specs.Option.{option_map};
 ghost use Rattle.grb_replay.specs.Held.{HoldsSame, IsEmptyWhereGone, IsMadeBySlice, held_matrix, held_vector, slice_length};
 
-use crate::partial_store::PartialStore;
+use crate::making::make_chosen;
 use crate::slice::slice_for;
 use crate::wanted::Wanted;
 use grb_call::{Call, Object};
@@ -17,7 +17,8 @@ use std::marker::Model;
 #[derive(Drop)]
 pub struct Held {
     object: Object,
-    store: PartialStore,
+    // Where the calls of its slice were made, and no other.
+    state: State,
     evaluated: u32,
 }
 
@@ -28,9 +29,9 @@ impl Model for Held {
 
     ghost Value = { HeldObject };
 
-    ghost view = { λ h. record { object = h.object; state = h.store.state; evaluated = h.evaluated } };
+    ghost view = { λ h. record { object = h.object; state = h.state; evaluated = h.evaluated } };
 
-    ghost invariant = { λ h. is_assembled h.store.state.matrices h.store.state.vectors h.object ≡ true };
+    ghost invariant = { λ h. is_assembled h.state.matrices h.state.vectors h.object ≡ true };
 }
 
 /// What the object holds after these calls on a store, from only the calls that it depends on: what is held is the store that these calls
@@ -60,19 +61,20 @@ pub fn value_of(
     if !walk.contains(object) {
         return Ok(Held {
             object,
-            store: PartialStore::empty(alloc),
+            state: State::empty(alloc),
             evaluated: 0,
         });
     }
     let source = LentCalls { calls };
     let mut wanted = Wanted::new(alloc);
     wanted.want(object)?;
-    let slice = slice_for(alloc, &mut walk, &source, 0, wanted.try_clone()?)?;
-    let mut store = PartialStore::of(whole, &mut walk, &source, 0, &slice, wanted, room)?;
-    store.complete(object)?;
+    let slice = slice_for(alloc, &mut walk, &source, wanted)?;
+    let mut state = whole.try_clone(room)?;
+    make_chosen(&mut state, &mut walk, &source, slice.chosen.as_slice())?;
+    state.complete(object)?;
     Ok(Held {
         object,
-        store,
+        state,
         evaluated: slice.count as u32,
     })
 }
@@ -84,7 +86,7 @@ impl Held {
         ensures assembled { IfSome result (λ matrix. matrix.now.assembled ≡ true) }
     {
         match self.object {
-            Object::Matrix(a) => self.store.matrix(a),
+            Object::Matrix(a) => self.state.matrix(a),
             Object::Vector(_) => None,
         }
     }
@@ -96,7 +98,7 @@ impl Held {
     {
         match self.object {
             Object::Matrix(_) => None,
-            Object::Vector(v) => self.store.vector(v),
+            Object::Vector(v) => self.state.vector(v),
         }
     }
 

@@ -83,17 +83,6 @@ impl Wanted {
         }
     }
 
-    /// The same objects are wanted. `AllocError` where memory is refused; then nothing is made.
-    pub(crate) fn try_clone(&self) -> Result<Wanted, AllocError>
-        ensures { IfOk result (λ copy. copy ≡ self.now) }
-    {
-        let alloc = *self.matrices.allocator();
-        Ok(Wanted {
-            matrices: self.matrices.as_slice().to_vec(alloc)?,
-            vectors: self.vectors.as_slice().to_vec(alloc)?,
-        })
-    }
-
     /// Makes a place for the mark of the object, if it has none. `AllocError` where memory is refused; the same objects are wanted in any
     /// case.
     fn make_place(&mut self, object: Object) -> Result<(), AllocError>
