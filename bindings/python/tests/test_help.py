@@ -116,6 +116,24 @@ class Passes(StoreCase):
         self.assertGreater(blocks, 0)
         self.assertEqual(self.q.blocks(), blocks)
 
+    def test_another_pass_tells_how_far_a_long_read_is(self) -> None:
+        a = matrix_of(self.p, 256, everywhere, one)
+        # Some products, since who asks may get no turn while one is made.
+        for _ in range(10):
+            product = a @ a
+            told = [self.q.blocks()]
+            with ThreadPoolExecutor(1) as threads:
+                reading = threads.submit(lambda: product.nvals)
+                while not reading.done():
+                    told.append(self.q.blocks())
+                    time.sleep(0.0005)
+                self.assertEqual(reading.result(), 256 * 256)
+            told.append(self.q.blocks())
+            self.assertEqual(told, sorted(told))
+            if len(set(told)) > 2:
+                return
+        self.fail(f"nothing was told between begin and end: {told}")
+
     def test_a_pass_that_is_alone_makes_none(self) -> None:
         with Store(room=100) as store:
             a = full(store.main)

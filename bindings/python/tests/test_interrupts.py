@@ -169,6 +169,19 @@ class Interrupted(StoreCase):
         self.interrupt(lambda: c.nvals, self.library)
         self.assertEqual(c.using(self.q)[0, 0], SIZE)
 
+    def test_another_pass_tells_how_far_the_read_is(self) -> None:
+        side = 128
+        rows, columns = [i for i in range(side) for _ in range(side)], list(range(side)) * side
+        a = Matrix.from_lists(self.p, side, side, rows, columns, 1)
+        c = a @ a
+        self.p._library = self.library
+        self.interrupt(lambda: c.nvals, self.library)
+        self.assertEqual(self.q.blocks(), 0)
+        self.library.let.set()
+        self.p._library = self.p._core.library
+        self.assertEqual(c.nvals, side * side)
+        self.assertGreater(self.q.blocks(), 0)
+
     def test_a_store_is_closed_without_waiting(self) -> None:
         ended = threading.Event()
 

@@ -441,7 +441,8 @@ class Pass:
     def blocks(self) -> int:
         """How many blocks of dear products were made so far in the store, by its passes and helpers.
 
-        One that two of them made counts twice. Of a store without an end, in the generation in which the pass sits.
+        One that two of them made counts twice. Of a store without an end, in the generation in which the pass sits. While
+        one pass makes a long read, another one tells so how far it is; also where a Ctrl-C has left the read.
 
         Raises:
             StoreClosed: the store is closed.
