@@ -29,8 +29,8 @@ def levels(arcs: Collection[Tuple[int, int]], start: int) -> Dict[int, int]:
             # The front goes along the arcs, and what was seen before is left out.
             front.vxm(graph, mask=seen, structure=True, complement=True, replace=True, out=front)
             seen.ewise_add(front, "lor", out=seen)
-            found.update((vertex, level) for vertex in front)
-        if sorted(seen) != sorted(found):
+            found.update((vertex, level) for vertex in front.keys())
+        if sorted(seen.keys()) != sorted(found):
             raise SystemExit("the vertices that were seen are not those of the fronts")
     return found
 

@@ -46,7 +46,7 @@ def main() -> None:
 
         # The same where no single road goes from one town to the other.
         farther = roads.mxm(roads, "min.plus", mask=roads, structure=True, complement=True)
-        print("pairs of towns with two roads and not one:", list(farther))
+        print("pairs of towns with two roads and not one:", list(farther.keys()))
 
         # How far all roads together go, and those that begin in each town.
         print("all roads:", roads.reduce("plus"))

@@ -125,7 +125,7 @@ class Closing(unittest.TestCase):
             lambda: v.size,
             lambda: v[0],
             lambda: len(v),
-            lambda: list(v),
+            lambda: list(v.keys()),
         ]
         for place, call in enumerate(calls):
             with self.subTest(place=place), self.assertRaisesRegex(StoreClosed, "the store is closed"):
@@ -261,7 +261,7 @@ class Passes(StoreCase):
             lambda: v.size,
             lambda: v.reduce("plus"),
             lambda: v.last_info,
-            lambda: list(v),
+            lambda: list(v.keys()),
             lambda: repr(v),
             v.to_lists,
             v.wait,

@@ -135,7 +135,7 @@ class Worked(StoreCase):
         ]
         for test, wanted in cases:
             with self.subTest(test=test):
-                self.assertEqual(list(self.u.select(test, 11)), wanted)
+                self.assertEqual(list(self.u.select(test, 11).keys()), wanted)
         self.assertEqual(self.truths.select("valuelt", True).to_dict(), {(1, 0): False})
         self.assertEqual(self.truths.select("valueeq", True).to_dict(), {(0, 1): True})
         self.assertEqual(self.a.T.select("valuege", 5).to_dict(), {(1, 1): 7, (2, 0): 5})

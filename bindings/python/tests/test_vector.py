@@ -82,12 +82,12 @@ class Lists(StoreCase):
         v.build([4, 0, 2], [7, 5, 0])
         self.assertEqual(v.to_lists(), ([0, 2, 4], [5, 0, 7]))
         self.assertEqual(list(v.items()), [(0, 5), (2, 0), (4, 7)])
-        self.assertEqual((list(v), list(v.keys()), list(v.values())), ([0, 2, 4], [0, 2, 4], [5, 0, 7]))
+        self.assertEqual((list(v.keys()), list(v.values())), ([0, 2, 4], [5, 0, 7]))
         self.assertEqual((v.to_dict(), dict(v)), ({0: 5, 2: 0, 4: 7}, {0: 5, 2: 0, 4: 7}))
 
     def test_an_empty_vector_has_no_entries(self) -> None:
         v = self.p.vector(5)
-        self.assertEqual((v.to_lists(), list(v), len(v), v.to_dict()), (([], []), [], 0, {}))
+        self.assertEqual((v.to_lists(), list(v.keys()), len(v), v.to_dict()), (([], []), [], 0, {}))
         v.build([], [])
         self.assertEqual(len(v), 0)
 
