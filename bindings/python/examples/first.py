@@ -34,7 +34,7 @@ def main() -> None:
         # A matrix of the roads: a row for where they begin, a column for where they end.
         begins, ends = zip(*ROADS)
         roads = Matrix.from_lists(p, 4, 4, begins, ends, ROADS.values())
-        print(roads, "with", len(roads), "entries")
+        print(roads)
         for (start, end), length in roads.items():
             print(f"  from {start} to {end}: {length}")
 

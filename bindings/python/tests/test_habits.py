@@ -11,6 +11,7 @@ from typing import Any, Callable, Dict, List
 
 from support import MOST_DIMENSION, StoreCase
 from trowelheath import Info, Matrix, OrderFull, Store, StoreClosed, UninitializedObject, Vector
+from trowelheath._show import said
 
 try:
     import numpy
@@ -344,7 +345,7 @@ class Signs(Sample):
         self.assertEqual((a.T.shape, a.T.nrows, a.T.ncols, a.T.dtype), ((3, 2), 3, 2, int))
         self.assertIs(a.T.T, a)
         self.assertEqual(a.T.dup().to_dict(), turned)
-        self.assertEqual(repr(a.T), "<transposed of <Matrix 2x3 int>>")
+        self.assertEqual(repr(a.T), "<transposed of <Matrix 2x3 int>, 2 entries>\n  0 1\n0 . 7\n1 . .\n2 5 .")
         b = Matrix.from_lists(self.p, 2, 2, [0], [1], [3])
         self.assertEqual((a.T @ b).to_dict(), {(2, 1): 15})
         self.assertEqual(a.T.mxm(b, "min_plus").to_dict(), {(2, 1): 8})
@@ -428,13 +429,13 @@ class Signs(Sample):
 
 
 class Said(StoreCase):
-    """What `repr` says, without a call."""
+    """What a message says of an object, without a call, and `repr` where it makes none."""
 
     def test_it_makes_no_call(self) -> None:
         a, v = self.p.matrix(3, 4), self.p.vector(5, bool)
         self.p._library = _NoLibrary()
-        self.assertEqual((repr(a), repr(v)), ("<Matrix 3x4 int>", "<Vector 5 bool>"))
-        self.assertEqual(repr(a.T), "<transposed of <Matrix 3x4 int>>")
+        self.assertEqual((said(a), said(v)), ("<Matrix 3x4 int>", "<Vector 5 bool>"))
+        self.assertEqual(said(a.T), "<transposed of <Matrix 3x4 int>>")
         self.p._library = self.p._core.library
 
     def test_it_waits_for_nobody(self) -> None:
@@ -450,7 +451,7 @@ class Said(StoreCase):
         thread = threading.Thread(target=hold)
         thread.start()
         held.wait()
-        self.assertEqual(repr(a), "<Matrix 3x4 int>")
+        self.assertEqual((repr(a), said(a)), ("<Matrix 3x4 int>", "<Matrix 3x4 int>"))
         over.set()
         thread.join()
         self.assertEqual(was_in_time, [True])
@@ -458,17 +459,17 @@ class Said(StoreCase):
     def test_it_leaves_the_last_status(self) -> None:
         a = self.p.matrix(3, 4)
         a.get(0, 0)
-        repr(a)
+        said(a)
         self.assertEqual(a.last_info, Info.NO_VALUE)
 
     def test_in_a_successor_a_shape_is_that_of_before(self) -> None:
         a = self.p.matrix(3, 4)
         with self.p.succeed(10) as successor:
             there = a.using(successor.main)
-            self.assertEqual(repr(there), "<Matrix 3x4 int>")
+            self.assertEqual(said(there), "<Matrix 3x4 int>")
             there.resize(7, 8)
-            self.assertEqual(repr(a.using(successor.main)), "<Matrix 7x8 int>")
-            self.assertEqual((repr(there), repr(a)), ("<Matrix 7x8 int>", "<Matrix 3x4 int>"))
+            self.assertEqual(said(a.using(successor.main)), "<Matrix 7x8 int>")
+            self.assertEqual((said(there), said(a)), ("<Matrix 7x8 int>", "<Matrix 3x4 int>"))
 
 
 class _NoLibrary:

@@ -253,10 +253,10 @@ class Life(StoreCase):
 
     def test_it_says_what_it_is(self) -> None:
         a = self.p.matrix(3, 4)
-        self.assertEqual(repr(a), "<Matrix 3x4 int>")
+        self.assertEqual(repr(a).split("\n")[0], "<Matrix 3x4 int, 0 entries>")
         a.resize(5, 4)
-        self.assertEqual(repr(a.using(self.q)), "<Matrix 5x4 int>")
-        self.assertEqual(repr(self.p.matrix(1, 2, bool)), "<Matrix 1x2 bool>")
+        self.assertEqual(repr(a.using(self.q)).split("\n")[0], "<Matrix 5x4 int, 0 entries>")
+        self.assertEqual(repr(self.p.matrix(1, 2, bool)), "<Matrix 1x2 bool, 0 entries>\n  0 1\n0 . .")
         a.free()
         self.assertIn("GrB_UNINITIALIZED_OBJECT", repr(a))
 

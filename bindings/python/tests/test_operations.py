@@ -9,7 +9,7 @@ from typing import Any, Callable, Dict, Iterator, List, NamedTuple, Optional, Tu
 import plain
 from choices import Choices, monoid_of, operator_of
 from support import MOST_DIMENSION, Draws, StoreCase
-from trowelheath import Matrix, Pass, Store, Vector
+from trowelheath import DomainMismatch, Matrix, Pass, Store, Vector
 
 Entries = Dict[Any, Any]
 
@@ -187,6 +187,28 @@ class Worked(StoreCase):
             with self.subTest(place=place), self.assertRaises(ValueError):
                 call()
         self.assertEqual(self.p.facts().known, known)
+
+    def test_operators_may_be_left_out(self) -> None:
+        a = Matrix.from_lists(self.p, 2, 3, [0, 1, 1], [2, 0, 2], [5, 7, 0])
+        b = Matrix.from_lists(self.p, 2, 3, [0, 0], [1, 2], [1, 2])
+        self.assertEqual(a.ewise_add(b).to_dict(), {(0, 1): 1, (0, 2): 7, (1, 0): 7, (1, 2): 0})
+        self.assertEqual(a.ewise_mult(b).to_dict(), {(0, 2): 10})
+        self.assertEqual(a.T.ewise_add(b.T).to_dict(), {(0, 1): 7, (1, 0): 1, (2, 0): 7, (2, 1): 0})
+        self.assertEqual(a.T.ewise_mult(b.T).to_dict(), {(2, 0): 10})
+        self.assertEqual((a.reduce_rows().to_dict(), a.T.reduce_rows().to_dict()), ({0: 5, 1: 7}, {0: 7, 2: 5}))
+        f = Matrix.from_lists(self.p, 2, 2, [0, 1], [1, 0], [True, False], bool)
+        g = Matrix.from_lists(self.p, 2, 2, [0, 1, 1], [1, 0, 1], [False, False, True], bool)
+        self.assertEqual(f.ewise_add(g).to_dict(), {(0, 1): True, (1, 0): False, (1, 1): True})
+        self.assertEqual(f.ewise_mult(g).to_dict(), {(0, 1): False, (1, 0): False})
+        self.assertEqual(g.reduce_rows().to_dict(), {0: False, 1: True})
+        v = Vector.from_lists(self.p, 5, [0, 2, 4], [30, 10, 20])
+        w = Vector.from_lists(self.p, 5, [0, 1], [2, 3])
+        self.assertEqual(v.ewise_add(w).to_dict(), {0: 32, 1: 3, 2: 10, 4: 20})
+        self.assertEqual(v.ewise_mult(w).to_dict(), {0: 60})
+        self.assertEqual((a.reduce(), v.reduce(), f.reduce()), (12, 60, True))
+        self.assertEqual((self.p.vector(3).reduce(), self.p.vector(3, bool).reduce()), (0, False))
+        with self.assertRaises(DomainMismatch):
+            f.reduce("plus")
 
 
 class Drawn(StoreCase):

@@ -162,7 +162,8 @@ class Worked(StoreCase):
         self.assertEqual(above.to_dict(), {(0, 1): 10, (1, 2): 11, (3, 4): 13})
         self.assertEqual((below.shape, below.to_dict()), ((7, 7), {(2, 0): 10, (3, 1): 11, (5, 3): 13}))
         self.assertEqual(self.u.diag().to_dict(), {(0, 0): 10, (1, 1): 11, (3, 3): 13})
-        self.assertEqual(repr(above), "<Matrix 6x6 int>")
+        shown = ["<Matrix 6x6 int, 3 entries>", "  0  1  2 3  4 5", "0 . 10  . .  . ."]
+        self.assertEqual(repr(above).split("\n")[:3], shown)
         self.u[0] = 99
         self.assertEqual(above[0, 1], 10)
 

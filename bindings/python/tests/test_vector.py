@@ -167,7 +167,7 @@ class Life(StoreCase):
 
     def test_it_says_what_it_is(self) -> None:
         v = Vector.from_lists(self.p, 5, [0, 1], True, bool)
-        self.assertEqual(repr(v), "<Vector 5 bool>")
+        self.assertEqual(repr(v), "<Vector 5 bool, 2 entries>\n   0    1 2 3 4\nTrue True . . .")
         v.free()
         self.assertIn("GrB_UNINITIALIZED_OBJECT", repr(v))
 

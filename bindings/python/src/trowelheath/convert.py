@@ -10,6 +10,7 @@ import sys
 from array import array
 from typing import Any, Callable, Iterable, List, NamedTuple, Optional, SupportsIndex, Tuple, Union
 
+from ._show import said
 from .operators import BOOL, UINT64, Domain
 
 Value = Union[bool, int]
@@ -37,7 +38,7 @@ def number(x: SupportsIndex) -> int:
 
 def _seen(x: object) -> str:
     """A value of the program as a message has it: its type, and what it is where that is short."""
-    text = repr(x)
+    text = said(x)
     return f"{text}, of type {type(x).__name__}" if len(text) <= 60 else f"one of type {type(x).__name__}"
 
 
@@ -48,7 +49,7 @@ def truth(x: object) -> bool:
     numpy = _numpy_if_imported()
     if numpy is not None and isinstance(x, numpy.bool_):
         return bool(x)
-    raise TypeError(f"an object of dtype bool takes True and False, not {x!r}")
+    raise TypeError(f"an object of dtype bool takes True and False, not {said(x)}")
 
 
 def value_of(domain: Domain, x: Any) -> Value:
@@ -148,6 +149,16 @@ def new_numpy_array(domain: Domain, length: int) -> Buffer:
     return _of_numpy(numpy.zeros(max(length, 1), dtype=domain.suffix))._replace(length=length)
 
 
+def dense_array(shape: Tuple[int, ...], *entries: Any) -> Any:
+    """A numpy array of this shape with these entries, an array for each index and one of the values, and 0 elsewhere."""
+    import numpy
+
+    *places, values = entries
+    made = numpy.zeros(shape, dtype=values.dtype)
+    made[tuple(places)] = values
+    return made
+
+
 def _numpy_if_imported() -> Any:
     """numpy where the program has imported it: without that, nothing can be an array of it."""
     return sys.modules.get("numpy")
@@ -157,6 +168,12 @@ def is_numpy_array(values: object) -> bool:
     """Whether this is an array of numpy."""
     numpy = _numpy_if_imported()
     return numpy is not None and isinstance(values, numpy.ndarray)
+
+
+def is_scipy_matrix(values: object) -> bool:
+    """Whether this is a matrix or an array of scipy.sparse."""
+    sparse = sys.modules.get("scipy.sparse")
+    return sparse is not None and bool(sparse.issparse(values))
 
 
 # What can be run through and is no list of values: the bytes of a text, or values in no order.
@@ -370,24 +387,26 @@ def _weight_reader(weight: Optional[str], dtype: type) -> Callable[[Any], Any]:
     return lambda attributes: attributes.get(weight, 1)
 
 
-def networkx_of_lists(
-    size: int,
-    rows: Iterable[int],
-    columns: Iterable[int],
-    values: Iterable[Value],
+def networkx_of_matrix(
+    shape: Tuple[int, int],
+    lists: Callable[[], Tuple[List[int], List[int], List[Value]]],
     nodes: Optional[Iterable[Any]],
     create_using: Any,
 ) -> Any:
-    """A networkx graph with an edge for each entry, whose `weight` is the value.
+    """A networkx graph with an edge for each entry of a matrix, whose `weight` is the value. `lists` reads the entries.
 
     Raises:
-        ValueError: `nodes` has not one name for each row.
+        ValueError: the matrix has not as many columns as rows, or `nodes` not one name for each row.
     """
+    nrows, ncols = shape
+    if nrows != ncols:
+        raise ValueError(f"a matrix of {nrows} rows and {ncols} columns is no graph")
     import networkx
 
-    names = list(range(size) if nodes is None else nodes)
-    if len(names) != size:
-        raise ValueError(f"there are {len(names)} nodes for {size} rows")
+    names = list(range(nrows) if nodes is None else nodes)
+    if len(names) != nrows:
+        raise ValueError(f"there are {len(names)} nodes for {nrows} rows")
+    rows, columns, values = lists()
     graph = networkx.empty_graph(names, create_using, default=networkx.DiGraph)
     graph.add_weighted_edges_from((names[i], names[j], x) for i, j, x in zip(rows, columns, values))
     return graph

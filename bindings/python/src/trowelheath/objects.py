@@ -1,13 +1,15 @@
 """Matrices and vectors.
 
 **Entries.** An object stores entries: a value at each of some places. A stored 0 or False is an entry too.
-Indices begin at 0. An object is used like a dict whose keys are places: `A[i, j]`, `v[i]`.
+Indices begin at 0. An object is used like a dict whose keys are places: `A[i, j]`, `v[i]`. But nothing runs through it
+by itself, as `sum(v)` or `for x in v` would: numpy runs through values, dicts and python-graphblas through places. So
+that raises `TypeError`, and `values`, `keys` and `items` say which.
 
 **Passes.** A `Matrix` or `Vector` is an object of the store as one pass sees it, and makes its calls by that
 pass. `using` gives the same object by another pass. The other objects of a call may be by any pass of the store.
 
 **One moment.** Each call takes effect at one moment between its start and its return. What hands out all entries
-(`items`, `to_lists`, iteration and so on) reads them at one moment. Two calls have two moments.
+(`items`, `to_lists` and so on) reads them at one moment. Two calls have two moments.
 
 **How an operation writes.** `mxm`, `mxv`, `vxm`, `ewise_add`, `ewise_mult`, `reduce_rows`, `transpose`, `apply`,
 `select` and `kronecker` compute entries from their inputs and write them into an output. These arguments say how:
@@ -24,6 +26,9 @@ pass. `using` gives the same object by another pass. The other objects of a call
 - `transpose` reads the first input, a matrix, with its rows as columns: `A.T.mxm(B)` is `A.mxm(B, transpose=True)`.
 - `transpose_second` reads the second input so: `A.mxm(B.T)` is `A.mxm(B, transpose_second=True)`.
 
+**Signs.** `A + B`, `A * B` and `A @ B` make new objects. `A += B`, `A *= B` and `A @= B` are the same with `out=A`: the
+object itself changes, by all its names and by one call.
+
 **Room.** Each call that changes the store takes one of the calls that the store has room for. To make a new output
 is a further call, and so is to free it where the operation is refused.
 
@@ -38,7 +43,15 @@ a number is no name. An object that came from the store before, by `using` or un
 members of a set, which compare names of one object alone; `A in [B, C]` raises.
 
 **numpy.** An object is no array: numpy's functions and operators raise `TypeError` of one, and so does what scipy makes
-of one. `to_numpy` and `to_scipy` give arrays.
+of one, and networkx. `to_numpy`, `toarray`, `to_scipy` and `to_networkx` make what they take. `S == A` of a matrix S
+of scipy is False, since scipy asks no other object; `A == S` raises `TypeError`.
+
+**Other packages.** `nnz`, `ndim`, `sum`, `copy` and `toarray` are as in scipy. Other names and signs of numpy, scipy,
+networkx and python-graphblas raise `AttributeError` or `TypeError`, which say what to write here.
+
+**Shown.** `repr` has the entries as a grid, or those of the first rows and columns where there are many, and notebooks
+show a table. That is a read, and so `last_info` is of it. Where another thread uses the pass, or the read would take
+long, it says what is known without one.
 
 **Ctrl-C.** It ends the wait for a read that may take long, in the main thread, as `Pass` tells.
 
@@ -71,8 +84,9 @@ from typing import (
     Union,
 )
 
-from . import _tell, convert
+from . import _show, _tell, convert
 from ._life import Life
+from ._stored import Stored
 from .convert import Buffer, Value
 from .errors import Info, InsufficientSpace, Refusal, StoreClosed, UninitializedObject
 from .operators import (
@@ -135,15 +149,11 @@ def _freed_on_failure(made: Object) -> Iterator[None]:
         raise
 
 
-class Object:
+class Object(Stored):
     """What matrices and vectors have in common. `Pass.matrix` and `Pass.vector` make them."""
 
     _sort: ClassVar[str]
-    _ndim: ClassVar[int]
     _how_to_make: ClassVar[str]
-
-    # numpy leaves operators with an object to the object, and its functions raise TypeError.
-    __array_ufunc__ = None
 
     _pass: Pass
     _number: int
@@ -189,11 +199,6 @@ class Object:
     def dtype(self) -> type:
         """The type of its values: `bool` for truth values, `int` for numbers from 0 to 2**64 - 1."""
         return self._domain.dtype
-
-    @property
-    def shape(self) -> Tuple[int, ...]:
-        """Its dimensions now."""
-        raise NotImplementedError
 
     @property
     def nvals(self) -> int:
@@ -251,7 +256,11 @@ class Object:
         self._pass._core.let_go.leave(self._sort, self._number)
         return self
 
-    def __repr__(self) -> str:
+    @property
+    def _object(self) -> Object:
+        return self
+
+    def _head(self) -> str:
         """What it is: its dimensions as far as they are known here, and its dtype. It makes no call."""
         sort = type(self).__name__
         if self._pass._closed is not None:
@@ -261,14 +270,16 @@ class Object:
         shape = self._life.shape
         return f"<{sort} {self._number if shape is None else 'x'.join(map(str, shape))} {self.dtype.__name__}>"
 
-    def isequal(self, other: Object) -> bool:
+    def isequal(self, other: Stored) -> bool:
         """Whether another object is of the same sort, domain and dimensions and stores the same entries.
 
-        It may be by another pass, and of another store. Each of the two is read at a moment of its own.
+        It may be by another pass, of another store, or read transposed. Each of the two is read at a moment of its own.
 
         Raises:
-            TypeError: the other one is neither a `Matrix` nor a `Vector`.
+            TypeError: the other one is neither a `Matrix`, as it is or read transposed, nor a `Vector`.
         """
+        if isinstance(other, Transposed):
+            return other.isequal(self)
         if not isinstance(other, Object):
             sort = type(self).__name__
             raise TypeError(f"a {sort} is compared with a Matrix or a Vector, not a {type(other).__name__}")
@@ -290,7 +301,7 @@ class Object:
         """Whether both are names of one object, by whatever pass. `isequal` tells whether two store the same.
 
         Raises:
-            TypeError: the other one is another object of the same sort, or an array of numpy.
+            TypeError: the other one is another object of the same sort, an array of numpy or a matrix of scipy.
         """
         if isinstance(other, Object):
             if self._is_name_of(other):
@@ -301,29 +312,13 @@ class Object:
                     f"A == B does not tell whether two objects of {sort} store the same: A.isequal(B) does, "
                     "and A is B whether they are one name"
                 )
-        elif convert.is_numpy_array(other):
-            raise TypeError(self._no_array())
+        else:
+            _require_no_array(self, other)
         return NotImplemented
 
     def __hash__(self) -> int:
         """A number that no other object of this process has."""
         return ((self._pass._core.place << 32 | self._number) << 1) + self._ndim - 1
-
-    def __array__(self, *arguments: Any, **options: Any) -> NoReturn:
-        """Raises `TypeError`: what numpy would see are places."""
-        raise TypeError(self._no_array())
-
-    def _no_array(self) -> str:
-        """What is said where something is made of the object as of an array."""
-        return f"a {type(self).__name__} is no array of numpy: to_numpy() has its entries in arrays"
-
-    def _no_sign(self, other: object) -> Any:
-        """What a sign answers for what it does not take. `TypeError` where that is an array of numpy."""
-        if convert.is_numpy_array(other):
-            raise TypeError(self._no_array())
-        return NotImplemented
-
-    __radd__ = __rmul__ = __rmatmul__ = _no_sign
 
     def __reduce__(self) -> NoReturn:
         raise TypeError(
@@ -333,47 +328,24 @@ class Object:
 
     # Its entries.
 
-    def __len__(self) -> int:
-        """How many entries it stores."""
-        return self.nvals
-
-    def __iter__(self) -> Iterator[Any]:
-        """The places of all entries at one moment, in rising order."""
-        return self.keys()
-
-    def keys(self) -> Iterator[Any]:
-        """The places of all entries at one moment, in rising order: `i` of a vector, `(i, j)` of a matrix."""
-        return (place for place, _ in self.items())
-
-    def values(self) -> Iterator[Value]:
-        """The values of all entries at one moment, in the order of their places."""
-        return (value for _, value in self.items())
-
-    def items(self) -> Iterator[Tuple[Any, Value]]:
-        """The place and the value of each entry at one moment, in the order of the places."""
-        raise NotImplementedError
-
-    def to_dict(self) -> Dict[Any, Value]:
-        """All entries at one moment: the value at each place that has one."""
-        return dict(self.items())
-
     def clear(self) -> None:
         """Removes all entries. The dimensions stay."""
         self._change("clear", self._number)
 
-    def reduce(self, monoid: str) -> Value:
-        """All values joined by a monoid, as "plus" or "lor"; its identity where nothing is stored.
+    def reduce(self, monoid: Optional[str] = None) -> Value:
+        """All values joined by a monoid, by default "plus", or "lor" of truth values; its identity where there is none.
 
         Raises:
             DomainMismatch: the monoid is of the other domain.
         """
+        named = self._domain.monoid if monoid is None else monoid
         out = self._domain.ctype()
         self._evaluate(
             f"reduce_{self._domain.suffix}",
             out,
-            monoid_number(monoid),
+            monoid_number(named),
             self._number,
-            tell=lambda code: _tell.of_total(code, self, monoid),
+            tell=lambda code: _tell.of_total(code, self, named),
         )
         value: Value = out.value
         return value
@@ -381,12 +353,16 @@ class Object:
     # Its life.
 
     def dup(self: AnyObject) -> AnyObject:
-        """A new object of the same domain, dimensions and entries, by the same pass."""
+        """A new object of the same domain, dimensions and entries, by the same pass. It takes one call of the room."""
         out = ctypes.c_uint32()
         self._change("dup", ctypes.byref(out), self._number)
         made = self._pass._made(type(self), out.value, self._domain, self._life.shape)
         made._life.entries, made._life.work = self._life.entries, self._life.work
         return made
+
+    def copy(self: AnyObject) -> AnyObject:
+        """A new object, as `dup`."""
+        return self.dup()
 
     def copy_to(self: AnyObject, pass_: Pass) -> AnyObject:
         """A new object of the same domain, dimensions and entries by another pass, of this store or of another one.
@@ -636,6 +612,7 @@ class Matrix(Object):
 
     _sort = "matrix"
     _ndim = 2
+    _letter = "A"
     _how_to_make = "p.matrix(nrows, ncols, dtype), or Matrix.from_lists(p, nrows, ncols, rows, columns, values)"
 
     @staticmethod
@@ -942,10 +919,19 @@ class Matrix(Object):
             ValueError: the matrix has not as many columns as rows, or `nodes` not as many names.
             ImportError: there is no networkx.
         """
-        nrows, ncols = self.shape
-        if nrows != ncols:
-            raise ValueError(f"a matrix of {nrows} rows and {ncols} columns is no graph")
-        return convert.networkx_of_lists(nrows, *self.to_lists(), nodes, create_using)
+        return convert.networkx_of_matrix(self.shape, self.to_lists, nodes, create_using)
+
+    def spy(self, ax: Any = None, **options: Any) -> Any:
+        """Plots where the entries are, stored zeros too, by `spy` of matplotlib, and returns what that returns.
+
+        Args:
+            ax: the axes to plot into, by default those of `matplotlib.pyplot`.
+            options: what `spy` of the axes takes, as `markersize=1`.
+
+        Raises:
+            ImportError: there is no matplotlib, or no scipy.
+        """
+        return _show.spy(self, ax, options)
 
     # Operations.
 
@@ -1056,24 +1042,42 @@ class Matrix(Object):
             return self.mxm(other)
         if isinstance(other, Vector):
             return self.mxv(other)
-        return self._no_sign(other)
+        return self._no_sign(other, "@")
 
     def __add__(self, other: Any) -> Any:
         """`A + B` is `A.ewise_add(B, "plus")`, of numbers."""
         if not isinstance(other, (Matrix, Transposed)):
-            return self._no_sign(other)
+            return self._no_sign(other, "+")
         return self.ewise_add(other, _operator_of_sign(self, "+"))
 
     def __mul__(self, other: Any) -> Any:
         """`A * B` is `A.ewise_mult(B, "times")`, of numbers: entry by entry. `A @ B` is the product of matrices."""
         if not isinstance(other, (Matrix, Transposed)):
-            return self._no_sign(other)
+            return self._no_sign(other, "*")
         return self.ewise_mult(other, _operator_of_sign(self, "*"))
+
+    def __imatmul__(self, other: Any) -> Any:
+        """`A @= B` is `A.mxm(B, out=A)`: the matrix itself changes, by all its names."""
+        if isinstance(other, Vector):
+            raise TypeError("A @= u would make a vector of a matrix: A @ u makes a new one")
+        return self.mxm(other, out=self) if isinstance(other, (Matrix, Transposed)) else self._no_sign(other, "@")
+
+    def __iadd__(self, other: Any) -> Any:
+        """`A += B` is `A.ewise_add(B, "plus", out=A)`, of numbers: the matrix itself changes, by all its names."""
+        if not isinstance(other, (Matrix, Transposed)):
+            return self._no_sign(other, "+")
+        return self.ewise_add(other, _operator_of_sign(self, "+"), out=self)
+
+    def __imul__(self, other: Any) -> Any:
+        """`A *= B` is `A.ewise_mult(B, "times", out=A)`, of numbers: the matrix itself changes, by all its names."""
+        if not isinstance(other, (Matrix, Transposed)):
+            return self._no_sign(other, "*")
+        return self.ewise_mult(other, _operator_of_sign(self, "*"), out=self)
 
     def ewise_add(
         self,
         other: Union[Matrix, Transposed],
-        operator: str,
+        operator: Optional[str] = None,
         *,
         mask: Optional[Matrix] = None,
         structure: bool = False,
@@ -1090,7 +1094,7 @@ class Matrix(Object):
 
         Args:
             other: the second matrix.
-            operator: a binary operator, as "plus".
+            operator: a binary operator, by default "plus", or "lor" of truth values.
             mask, structure, complement, replace, accum, out: how it writes; see `trowelheath.objects`.
             transpose: whether this matrix is read with its rows as columns.
             transpose_second: whether the second matrix is, as in `A.ewise_add(B.T, "plus")`.
@@ -1107,12 +1111,13 @@ class Matrix(Object):
             transpose=transpose,
             transpose_second=turned,
         )
-        return self._ewise("trb_matrix_ewise_add", second, operator, _Writing(mask, accum, bits), out)
+        named = self._domain.monoid if operator is None else operator
+        return self._ewise("trb_matrix_ewise_add", second, named, _Writing(mask, accum, bits), out)
 
     def ewise_mult(
         self,
         other: Union[Matrix, Transposed],
-        operator: str,
+        operator: Optional[str] = None,
         *,
         mask: Optional[Matrix] = None,
         structure: bool = False,
@@ -1129,7 +1134,7 @@ class Matrix(Object):
 
         Args:
             other: the second matrix.
-            operator: a binary operator, as "times".
+            operator: a binary operator, by default "times", or "land" of truth values.
             mask, structure, complement, replace, accum, out: how it writes; see `trowelheath.objects`.
             transpose: whether this matrix is read with its rows as columns.
             transpose_second: whether the second matrix is, as in `A.ewise_mult(B.T, "times")`.
@@ -1146,11 +1151,12 @@ class Matrix(Object):
             transpose=transpose,
             transpose_second=turned,
         )
-        return self._ewise("trb_matrix_ewise_mult", second, operator, _Writing(mask, accum, bits), out)
+        named = semiring_parts(self._domain.semiring)[1] if operator is None else operator
+        return self._ewise("trb_matrix_ewise_mult", second, named, _Writing(mask, accum, bits), out)
 
     def reduce_rows(
         self,
-        monoid: str,
+        monoid: Optional[str] = None,
         *,
         mask: Optional[Vector] = None,
         structure: bool = False,
@@ -1165,7 +1171,7 @@ class Matrix(Object):
         At each row that stores a value it has the row's values joined by the monoid, and nothing at other rows.
 
         Args:
-            monoid: the monoid, as "plus".
+            monoid: the monoid, by default "plus", or "lor" of truth values.
             mask, structure, complement, replace, accum, out: how it writes; see `trowelheath.objects`.
             transpose: whether the columns are joined in place of the rows.
 
@@ -1173,12 +1179,13 @@ class Matrix(Object):
             DomainMismatch: the output, the matrix, the monoid and the accumulator are not of one domain.
             DimensionMismatch: the output has not an index for each row, or the mask is not of its size.
         """
+        named = self._domain.monoid if monoid is None else monoid
         bits = descriptor(replace=replace, complement=complement, structure=structure, transpose=transpose)
         return self._write(
             "reduce_rows",
             "trb_reduce_rows",
-            (monoid_number(monoid),),
-            (("monoid", monoid),),
+            (monoid_number(named),),
+            (("monoid", named),),
             None,
             _Writing(mask, accum, bits),
             Vector,
@@ -1422,6 +1429,7 @@ class Vector(Object):
 
     _sort = "vector"
     _ndim = 1
+    _letter = "v"
     _how_to_make = "p.vector(size, dtype), or Vector.from_lists(p, size, indices, values)"
 
     @staticmethod
@@ -1688,24 +1696,42 @@ class Vector(Object):
         """`u @ A` is `u.vxm(A)`: "plus.times" of numbers, "lor.land" of truth values. `u @ A.T` is `A @ u`."""
         if isinstance(other, Transposed):
             return other.T.mxv(self)
-        return self.vxm(other) if isinstance(other, Matrix) else self._no_sign(other)
+        return self.vxm(other) if isinstance(other, Matrix) else self._no_sign(other, "@")
 
     def __add__(self, other: Any) -> Any:
         """`u + v` is `u.ewise_add(v, "plus")`, of numbers."""
         if not isinstance(other, Vector):
-            return self._no_sign(other)
+            return self._no_sign(other, "+")
         return self.ewise_add(other, _operator_of_sign(self, "+"))
 
     def __mul__(self, other: Any) -> Any:
         """`u * v` is `u.ewise_mult(v, "times")`, of numbers: entry by entry."""
         if not isinstance(other, Vector):
-            return self._no_sign(other)
+            return self._no_sign(other, "*")
         return self.ewise_mult(other, _operator_of_sign(self, "*"))
+
+    def __imatmul__(self, other: Any) -> Any:
+        """`u @= A` is `u.vxm(A, out=u)`: the vector itself changes, by all its names."""
+        if isinstance(other, Transposed):
+            return other.T.mxv(self, out=self)
+        return self.vxm(other, out=self) if isinstance(other, Matrix) else self._no_sign(other, "@")
+
+    def __iadd__(self, other: Any) -> Any:
+        """`u += v` is `u.ewise_add(v, "plus", out=u)`, of numbers: the vector itself changes, by all its names."""
+        if not isinstance(other, Vector):
+            return self._no_sign(other, "+")
+        return self.ewise_add(other, _operator_of_sign(self, "+"), out=self)
+
+    def __imul__(self, other: Any) -> Any:
+        """`u *= v` is `u.ewise_mult(v, "times", out=u)`, of numbers: the vector itself changes, by all its names."""
+        if not isinstance(other, Vector):
+            return self._no_sign(other, "*")
+        return self.ewise_mult(other, _operator_of_sign(self, "*"), out=self)
 
     def ewise_add(
         self,
         other: Vector,
-        operator: str,
+        operator: Optional[str] = None,
         *,
         mask: Optional[Vector] = None,
         structure: bool = False,
@@ -1720,7 +1746,7 @@ class Vector(Object):
 
         Args:
             other: the second vector.
-            operator: a binary operator, as "plus".
+            operator: a binary operator, by default "plus", or "lor" of truth values.
             mask, structure, complement, replace, accum, out: how it writes; see `trowelheath.objects`.
 
         Raises:
@@ -1728,12 +1754,13 @@ class Vector(Object):
             DimensionMismatch: the inputs, the output and the mask are not all of one size.
         """
         how = _Writing(mask, accum, descriptor(replace=replace, complement=complement, structure=structure))
-        return self._ewise("trb_vector_ewise_add", other, operator, how, out)
+        named = self._domain.monoid if operator is None else operator
+        return self._ewise("trb_vector_ewise_add", other, named, how, out)
 
     def ewise_mult(
         self,
         other: Vector,
-        operator: str,
+        operator: Optional[str] = None,
         *,
         mask: Optional[Vector] = None,
         structure: bool = False,
@@ -1748,7 +1775,7 @@ class Vector(Object):
 
         Args:
             other: the second vector.
-            operator: a binary operator, as "times".
+            operator: a binary operator, by default "times", or "land" of truth values.
             mask, structure, complement, replace, accum, out: how it writes; see `trowelheath.objects`.
 
         Raises:
@@ -1756,7 +1783,8 @@ class Vector(Object):
             DimensionMismatch: the inputs, the output and the mask are not all of one size.
         """
         how = _Writing(mask, accum, descriptor(replace=replace, complement=complement, structure=structure))
-        return self._ewise("trb_vector_ewise_mult", other, operator, how, out)
+        named = semiring_parts(self._domain.semiring)[1] if operator is None else operator
+        return self._ewise("trb_vector_ewise_mult", other, named, how, out)
 
     def _ewise(self, name: str, other: Vector, operator: str, how: _Writing, out: Optional[Vector]) -> Vector:
         self._number_of(other, Vector, "the second input")
@@ -1894,22 +1922,44 @@ class Vector(Object):
         return made
 
 
-class Transposed:
-    """A matrix that is read with its rows as columns, as `A.T`: an input of an operation.
+class Transposed(Stored):
+    """A matrix that is read with its rows as columns, as `A.T`: an input of an operation, and a view of its entries.
 
-    It is no matrix of the store, takes no room, and reads what the matrix stores when it is used.
+    It is no matrix of the store, takes no room, and reads what the matrix stores when it is used. Its `T[i, j]` is
+    `A[j, i]`, to be stored and removed too.
     """
 
-    __array_ufunc__ = None
+    _ndim = 2
+    _letter = "A.T"
 
     def __init__(self, matrix: Matrix) -> None:
         """The matrix read so. `Matrix.T` makes it."""
         self._matrix = matrix
 
+    # What it is.
+
     @property
     def T(self) -> Matrix:  # noqa: N802
         """The matrix itself."""
         return self._matrix
+
+    @property
+    def _object(self) -> Matrix:
+        return self._matrix
+
+    @property
+    def pass_(self) -> Pass:
+        """The pass that makes the matrix's calls."""
+        return self._matrix.pass_
+
+    @property
+    def store(self) -> Store:
+        """The store of the matrix."""
+        return self._matrix.store
+
+    def using(self, pass_: Pass) -> Transposed:
+        """The same by another pass, as `Matrix.using`."""
+        return Transposed(self._matrix.using(pass_))
 
     @property
     def shape(self) -> Tuple[int, int]:
@@ -1932,12 +1982,128 @@ class Transposed:
         """The type of its values, as of the matrix."""
         return self._matrix.dtype
 
-    def __repr__(self) -> str:
-        return f"<transposed of {self._matrix!r}>"
+    @property
+    def nvals(self) -> int:
+        """How many entries it stores, as the matrix."""
+        return self._matrix.nvals
+
+    def _head(self) -> str:
+        return f"<transposed of {self._matrix._head()}>"
+
+    def _no_array(self) -> str:
+        return f"{super()._no_array()}, and to_scipy() makes a matrix of scipy.sparse"
+
+    def isequal(self, other: Stored) -> bool:
+        """As `Matrix.isequal`, of what is read so."""
+        if not isinstance(other, Stored):
+            raise TypeError(f"A.T is compared with a Matrix or a Vector, not a {type(other).__name__}")
+        if isinstance(other, Vector) or self.dtype is not other.dtype or self.shape != other.shape:
+            return False
+        return self.nvals == other.nvals and list(self.items()) == list(other.items())
+
+    def __eq__(self, other: object) -> bool:
+        """Whether both are one object read transposed. `TypeError` as of a matrix: `isequal` compares what is stored."""
+        if isinstance(other, Transposed) and self._matrix._is_name_of(other._matrix):
+            return True
+        if isinstance(other, (Matrix, Transposed)):
+            raise TypeError("A.T == B does not tell whether both store the same: A.T.isequal(B) does")
+        _require_no_array(self, other)
+        return NotImplemented
+
+    def __hash__(self) -> int:
+        return ~hash(self._matrix)
+
+    # Its entries.
+
+    def __getitem__(self, place: Tuple[SupportsIndex, SupportsIndex]) -> Value:
+        """The value at row i and column j, which is that at row j and column i of the matrix, as of `Matrix`."""
+        i, j = _row_and_column(place)
+        value: Optional[Value] = self._matrix.get(j, i)
+        if value is None:
+            raise KeyError((i, j))
+        return value
+
+    def get(self, i: SupportsIndex, j: SupportsIndex, default: Any = None) -> Any:
+        """The value at row i and column j, or `default` where nothing is stored."""
+        return self._matrix.get(j, i, default)
+
+    def __contains__(self, place: object) -> bool:
+        """Whether a value is stored at row i and column j, as in `(i, j) in A.T`."""
+        return isinstance(place, tuple) and place[::-1] in self._matrix
+
+    def __setitem__(self, place: Tuple[SupportsIndex, SupportsIndex], value: Value) -> None:
+        """Stores a value in the matrix: `A.T[i, j] = x` is `A[j, i] = x`."""
+        i, j = _row_and_column(place)
+        self._matrix[j, i] = value
+
+    def __delitem__(self, place: Tuple[SupportsIndex, SupportsIndex]) -> None:
+        """Removes an entry of the matrix: `del A.T[i, j]` is `del A[j, i]`."""
+        i, j = _row_and_column(place)
+        del self._matrix[j, i]
+
+    def items(self) -> Iterator[Tuple[Tuple[int, int], Value]]:
+        """`((i, j), value)` of each entry at one moment, row by row in rising order."""
+        rows, columns, values = self.to_lists()
+        return zip(zip(rows, columns), values)
+
+    def to_lists(self) -> Tuple[List[int], List[int], List[Value]]:
+        """As `Matrix.to_lists`, of what is read so."""
+        columns, rows, values = self._matrix.to_lists()
+        # Within a row they stay in the order of their columns.
+        order = sorted(range(len(rows)), key=rows.__getitem__)
+        return [rows[k] for k in order], [columns[k] for k in order], [values[k] for k in order]
+
+    def to_numpy(self) -> Tuple[Any, Any, Any]:
+        """As `Matrix.to_numpy`, of what is read so."""
+        columns, rows, values = self._matrix.to_numpy()
+        order = rows.argsort(kind="stable")
+        return rows[order], columns[order], values[order]
+
+    to_coo = to_numpy
+
+    def toarray(self) -> Any:
+        """As `Matrix.toarray`, of what is read so."""
+        return self._matrix.toarray().T
+
+    def to_scipy(self) -> Any:
+        """As `Matrix.to_scipy`, of what is read so."""
+        shape = self.shape
+        columns, rows, values = self._matrix.to_numpy()
+        return convert.scipy_of_arrays(shape, rows, columns, values)
+
+    def to_networkx(self, nodes: Optional[Iterable[Any]] = None, create_using: Any = None) -> Any:
+        """As `Matrix.to_networkx`, with each edge turned round."""
+        return convert.networkx_of_matrix(self.shape, self.to_lists, nodes, create_using)
+
+    def spy(self, ax: Any = None, **options: Any) -> Any:
+        """As `Matrix.spy`, of what is read so."""
+        return _show.spy(self, ax, options)
+
+    def reduce(self, monoid: Optional[str] = None) -> Value:
+        """As `Matrix.reduce`."""
+        return self._matrix.reduce(monoid)
+
+    def sum(self, axis: Optional[int] = None) -> int:
+        """As `Matrix.sum`."""
+        return self._matrix.sum() if axis is None else super().sum(axis)
+
+    def wait(self, mode: str = "complete") -> None:
+        """As `Matrix.wait`."""
+        self._matrix.wait(mode)
 
     def dup(self) -> Matrix:
         """A new matrix of these rows and columns. It takes two calls of the room."""
         return self._matrix.transpose()
+
+    def copy(self) -> Matrix:
+        """A new matrix, as `dup`."""
+        return self.dup()
+
+    def copy_to(self, pass_: Pass) -> Matrix:
+        """A new matrix of these rows and columns by another pass, as `Matrix.copy_to`."""
+        return Matrix.from_lists(pass_, *self.shape, *self.to_lists(), self.dtype)
+
+    # Operations.
 
     def mxm(self, other: Union[Matrix, Transposed], semiring: Optional[str] = None, **how: Any) -> Matrix:
         """As `Matrix.mxm` with `transpose`."""
@@ -1947,15 +2113,15 @@ class Transposed:
         """As `Matrix.mxv` with `transpose`."""
         return self._matrix.mxv(vector, semiring, transpose=True, **how)
 
-    def ewise_add(self, other: Union[Matrix, Transposed], operator: str, **how: Any) -> Matrix:
+    def ewise_add(self, other: Union[Matrix, Transposed], operator: Optional[str] = None, **how: Any) -> Matrix:
         """As `Matrix.ewise_add` with `transpose`."""
         return self._matrix.ewise_add(other, operator, transpose=True, **how)
 
-    def ewise_mult(self, other: Union[Matrix, Transposed], operator: str, **how: Any) -> Matrix:
+    def ewise_mult(self, other: Union[Matrix, Transposed], operator: Optional[str] = None, **how: Any) -> Matrix:
         """As `Matrix.ewise_mult` with `transpose`."""
         return self._matrix.ewise_mult(other, operator, transpose=True, **how)
 
-    def reduce_rows(self, monoid: str, **how: Any) -> Vector:
+    def reduce_rows(self, monoid: Optional[str] = None, **how: Any) -> Vector:
         """As `Matrix.reduce_rows` with `transpose`: the columns of the matrix, joined."""
         return self._matrix.reduce_rows(monoid, transpose=True, **how)
 
@@ -1981,27 +2147,36 @@ class Transposed:
             return self.mxm(other)
         if isinstance(other, Vector):
             return self.mxv(other)
-        return self._matrix._no_sign(other)
-
-    def __rmatmul__(self, other: Any) -> Any:
-        """Nothing: `u @ A.T` is of vectors of the store alone."""
-        return self._matrix._no_sign(other)
+        return self._no_sign(other, "@")
 
     def __add__(self, other: Any) -> Any:
         """`A.T + B` is `A.T.ewise_add(B, "plus")`, of numbers."""
         if not isinstance(other, (Matrix, Transposed)):
-            return self._matrix._no_sign(other)
+            return self._no_sign(other, "+")
         return self.ewise_add(other, _operator_of_sign(self._matrix, "+"))
 
     def __mul__(self, other: Any) -> Any:
         """`A.T * B` is `A.T.ewise_mult(B, "times")`, of numbers."""
         if not isinstance(other, (Matrix, Transposed)):
-            return self._matrix._no_sign(other)
+            return self._no_sign(other, "*")
         return self.ewise_mult(other, _operator_of_sign(self._matrix, "*"))
 
-    def __array__(self, *arguments: Any, **options: Any) -> NoReturn:
-        """Raises `TypeError`, as of a matrix."""
-        raise TypeError(self._matrix._no_array())
+    def _no_change(self, other: object) -> NoReturn:
+        """Raises `TypeError`: a sign changes no view."""
+        raise TypeError("A.T is a view of A: write the operation with out=A, as in A.ewise_add(B.T, out=A)")
+
+    __iadd__ = __imul__ = __imatmul__ = _no_change
+
+
+def _require_no_array(item: Stored, other: object) -> None:
+    """Raises `TypeError` where an object is compared with an array of numpy or a matrix of scipy."""
+    if convert.is_numpy_array(other):
+        raise TypeError(f"{item._no_array()}, and toarray() an array of all places")
+    if convert.is_scipy_matrix(other):
+        raise TypeError(
+            "A == S does not compare with a matrix of scipy: A.isequal(Matrix.from_scipy(A.pass_, S)) does, and "
+            "A.to_scipy() != S has the places that differ"
+        )
 
 
 def _as_stored(other: Any, transpose: bool) -> Tuple[Any, bool]:
@@ -2036,5 +2211,5 @@ def _row_and_column(place: Any) -> Tuple[int, int]:
     if not isinstance(place, tuple) or len(place) != 2:
         if isinstance(place, slice):
             convert.index(place)
-        raise TypeError(f"a place of a matrix is a row and a column, as in A[i, j], not {place!r}")
+        raise TypeError(f"a place of a matrix is a row and a column, as in A[i, j], not {_show.said(place)}")
     return convert.index(place[0]), convert.index(place[1])

@@ -52,6 +52,8 @@ import sys
 from types import MappingProxyType
 from typing import Any, Mapping, NamedTuple, Tuple
 
+from ._show import said
+
 __all__ = ["MONOIDS", "OPERATORS", "TESTS", "UNARY_OPERATORS", "Domain", "domain_of"]
 
 
@@ -150,7 +152,7 @@ def domain_of(dtype: Any) -> Domain:
         for domain in (BOOL, UINT64):
             if numpy.dtype(dtype) == numpy.dtype(domain.suffix):
                 return domain
-    raise TypeError(f'the dtype must be bool or int, or "bool" or "uint64" as numpy has them, not {dtype!r}')
+    raise TypeError(f'the dtype must be bool or int, or "bool" or "uint64" as numpy has them, not {said(dtype)}')
 
 
 def domain_of_operator(name: str) -> str:
@@ -164,7 +166,7 @@ def _number_of(name: str, numbers: Mapping[str, int], what: str) -> int:
     try:
         return numbers[name]
     except (KeyError, TypeError):
-        raise ValueError(f"{name!r} is no {what}; these are: {', '.join(numbers)}") from None
+        raise ValueError(f"{said(name)} is no {what}; these are: {', '.join(numbers)}") from None
 
 
 def operator_number(name: str) -> int:
@@ -216,7 +218,7 @@ def semiring_parts(name: str) -> Tuple[str, str]:
     monoid, found, operator = name.partition(mark) if isinstance(name, str) else (name, "", "")
     if not found:
         raise ValueError(
-            f'{name!r} is no semiring: write a monoid, a dot and an operator, as in "plus.times" or "plus_times"'
+            f'{said(name)} is no semiring: write a monoid, a dot and an operator, as in "plus.times" or "plus_times"'
         )
     return monoid, operator
 

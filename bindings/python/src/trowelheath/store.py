@@ -677,6 +677,10 @@ class Pass:
         if status < 0:
             self._refuse(status, None, tell)
 
+    def _is_long(self, work: int) -> bool:
+        """Whether a read that has to visit so many entries may take long."""
+        return work >= _LONG
+
     def _read(self, function: Any, arguments: Tuple[Any, ...], work: int, hold: Any = None) -> int:
         """Makes a read, and returns its status: by a helper, where it may be long and this is the main thread.
 
