@@ -18,6 +18,7 @@ def _sign(sign: str, is_left: bool = False) -> Any:
     """A method for a sign that no object has: it says what to write with a number, on the left too, or an object."""
 
     def refuse(self: Stored, other: object) -> Any:
+        """No object has this sign: `TypeError` says what to write."""
         return self._no_sign(other, sign, is_left)
 
     return refuse
@@ -27,6 +28,7 @@ def _alone(sign: str) -> Any:
     """A method for a sign before an object, which none has."""
 
     def refuse(self: Stored) -> NoReturn:
+        """No object has this sign: `TypeError` says what to write."""
         hint = _elsewhere.of_sign(self._letter, sign, "alone")
         raise TypeError(f"bad operand type for unary {sign}: '{type(self).__name__}': write {hint}")
 
