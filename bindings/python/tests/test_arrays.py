@@ -5,20 +5,11 @@ from __future__ import annotations
 import unittest
 from typing import Any
 
+from optional import numpy, sparse
 from support import MOST_NUMBER, StoreCase
 from trowelheath import InvalidValue, Matrix, Vector
 from trowelheath.convert import apart, indices, numbers, truth, truths, values_of
 from trowelheath.operators import BOOL, UINT64
-
-try:
-    import numpy
-except ImportError:
-    numpy = None
-
-try:
-    from scipy import sparse
-except ImportError:
-    sparse = None
 
 
 @unittest.skipIf(numpy is None, "there is no numpy")

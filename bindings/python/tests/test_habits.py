@@ -9,19 +9,10 @@ import unittest
 from concurrent.futures import ThreadPoolExecutor
 from typing import Any, Callable, Dict, List
 
+from optional import numpy, sparse
 from support import MOST_DIMENSION, StoreCase
 from trowelheath import Info, Matrix, OrderFull, Store, StoreClosed, UninitializedObject, Vector
 from trowelheath._show import said
-
-try:
-    import numpy
-except ImportError:
-    numpy = None
-
-try:
-    from scipy import sparse
-except ImportError:
-    sparse = None
 
 
 class Sample(StoreCase):

@@ -6,18 +6,9 @@ import collections
 import unittest
 from typing import Any, Callable, Dict
 
+from optional import networkx, numpy
 from support import StoreCase
 from trowelheath import Matrix, Vector
-
-try:
-    import numpy
-except ImportError:
-    numpy = None
-
-try:
-    import networkx
-except ImportError:
-    networkx = None
 
 
 class Sample(StoreCase):

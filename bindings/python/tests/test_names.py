@@ -5,18 +5,9 @@ from __future__ import annotations
 import unittest
 from typing import Dict, List
 
+from optional import numpy, sparse
 from support import MOST_NUMBER, StoreCase
 from trowelheath import Matrix, Vector, _elsewhere
-
-try:
-    import numpy
-except ImportError:
-    numpy = None
-
-try:
-    from scipy import sparse
-except ImportError:
-    sparse = None
 
 
 class Sample(StoreCase):

@@ -4,13 +4,9 @@ from __future__ import annotations
 
 import unittest
 
+from optional import networkx
 from support import StoreCase
 from trowelheath import InvalidValue, Matrix
-
-try:
-    import networkx
-except ImportError:
-    networkx = None
 
 
 @unittest.skipIf(networkx is None, "there is no networkx")

@@ -5,18 +5,9 @@ from __future__ import annotations
 import unittest
 from typing import Any, Callable, Dict
 
+from optional import numpy, sparse
 from support import StoreCase
 from trowelheath import DimensionMismatch, Matrix, OrderFull, Store, Vector
-
-try:
-    import numpy
-except ImportError:
-    numpy = None
-
-try:
-    from scipy import sparse
-except ImportError:
-    sparse = None
 
 
 class Sample(StoreCase):

@@ -5,23 +5,9 @@ from __future__ import annotations
 import unittest
 from typing import Any, Callable, Dict
 
+from optional import networkx, numpy, sparse
 from support import StoreCase
 from trowelheath import InvalidIndex, Matrix, Store
-
-try:
-    import numpy
-except ImportError:
-    numpy = None
-
-try:
-    from scipy import sparse
-except ImportError:
-    sparse = None
-
-try:
-    import networkx
-except ImportError:
-    networkx = None
 
 
 class Views(StoreCase):
