@@ -1,7 +1,11 @@
 -- Worked examples, computed from the definitions, and that the premises of the laws can be met.
-use Rattle.std.proofs.Common.{◌≡◌, ℕ, true, false, [], ◌∷◌, refl, arith, lit<}
-use Rattle.grb_core.proofs.Prelude.{◌≢◌, IsPermutation, nat_cmp, All-nil, All-cons, All-from_recursion, Value, IsValueOf, VectorEntries, cell_cmp, without_entry, built_from, cells_of, resized_vector, fold_of, AreOf, BringValuesOf, HavePlacesApart, set_all}
+use Rattle.std.proofs.Common.{◌≡◌, ◌<◌, ℕ, true, false, [], ◌∷◌, refl, subst, ◌∙◌, arith, lit<}
+use Rattle.std.specs.Prelude.{Option, Some, IfSome, option_and_then}
+use Rattle.grb_core.proofs.Prelude.{◌≢◌, IsPermutation, nat_cmp, All-nil, All-cons, All-from_recursion, Value, IsValueOf, VectorEntries, cell_cmp, without_entry, built_from, cells_of, resized_vector, fold_of, AreOf, BringValuesOf, Cell, HavePlacesApart, MatrixEntries, set_all, transposed}
 use Rattle.std.proofs.lemmas.List.Kept.{AllPairs-cons}
+use Rattle.grb_core.specs.Pulled.{pulled_matrix, matrix_from_vector, exchanged}
+use Rattle.grb_core.specs.MapLaws.{IsInto}
+use Rattle.grb_core.proofs.Pulls.{pulled_twice, placed_twice}
 use Rattle.grb_core.specs.declared.domain.Domain.TheVariants as domain
 use Rattle.grb_core.specs.declared.value.Value.TheVariants as value
 use Rattle.grb_core.specs.declared.monoid.Monoid.TheVariants as monoid
@@ -76,3 +80,20 @@ are_numbers = All-from_recursion (IsValueOf domain.Uint64) (u64 5 ∷ u64 6 ∷ 
 
 in_another_order : IsPermutation two ((1, u64 6) ∷ (3, u64 5) ∷ [])
 in_another_order = record { moves = (0, 1) ∷ []; below = (lit< tt, lit< tt, tt); is = refl }
+
+abbrev three_by_two : MatrixEntries
+three_by_two = ((0, 1), u64 6) ∷ ((2, 0), u64 5) ∷ []
+
+-- the premise of the clauses `twice` and `placed` of `moved_entries_stand_where_they_are_read`: of 3 by 2 cells that are transposed
+exchanged_is_into : IsInto 2 3 3 2 exchanged
+exchanged_is_into k l row column e = subst (λ (o : Option Cell). IfSome o (λ m. (m.0 < 3) × (m.1 < 2))) e (column, row)
+
+-- and what they then say: of a matrix that is transposed twice, and of one whose rows are a vector's values
+read_as_before : pulled_matrix 2 3 exchanged (pulled_matrix 3 2 exchanged (transposed three_by_two)) ≡ transposed three_by_two
+read_as_before = pulled_twice 3 2 2 3 exchanged exchanged (transposed three_by_two) exchanged_is_into ∙ refl
+
+abbrev spread : Cell → Option ℕ
+spread k = Some k.0
+
+spread_and_turned : pulled_matrix 2 3 exchanged (matrix_from_vector 3 2 spread two) ≡ matrix_from_vector 2 3 (λ k. option_and_then spread (exchanged k)) two
+spread_and_turned = placed_twice 3 2 2 3 spread exchanged two exchanged_is_into
