@@ -49,6 +49,7 @@ fn is_same_call(a: &Call, b: &Call) -> bool
 fn begin_with(calls: &[&Call], first: &[Call]) -> bool
     ensures same { IsTrue result → take (length first.now) (map (λ c. c.now) calls.now) ≡ first.now }
     ensures within { IsTrue result → length first.now ≤ length calls.now }
+    ensures first { IsTrue result → (results : List Kept) → AreKept first.now results → AreKept (take (length first.now) (map (λ c. c.now) calls.now)) results }
     ensures kept { IsTrue result → (results : List Kept) → AreKept first.now results → AreKept (map (λ c. c.now) calls.now) results }
 {
     if first.len() > calls.len() {
@@ -104,6 +105,7 @@ impl Edition {
     /// How many calls it has, and its results, where its calls begin these. Takes no memory.
     pub(crate) fn serving(&self, calls: &[&Call]) -> Option<(usize, &[Kept])>
         ensures kept { IfSome result (λ found. AreKept (map (λ c. c.now) calls.now) found.1.now) }
+        ensures first { IfSome result (λ found. AreKept (take found.0 (map (λ c. c.now) calls.now)) found.1.now) }
         ensures within { IfSome result (λ found. found.0 ≤ length calls.now) }
         ensures counted { IfSome result (λ found. 0 < found.0) }
     {

@@ -17,7 +17,7 @@
 //!
 //! No call waits: no one looks at a slot until readers are gone, and each loop is bounded, by `LOOKS`, by the number of cells or by that of
 //! the results. What is missed is work that a pass does for itself; no answer depends on it.
-ghost use Rattle.std.specs.Prelude.{◌≡◌, ◌+◌, ◌*◌, ◌<◌, ◌≤◌, ◌^◌, ◌↔◌, true, Ok, None, IfOk, IfSome, IsTrue, length, map};
+ghost use Rattle.std.specs.Prelude.{◌≡◌, ◌+◌, ◌*◌, ◌<◌, ◌≤◌, ◌^◌, ◌↔◌, true, Ok, None, IfOk, IfSome, IsTrue, length, map, take};
 ghost use Rattle.grb_results.specs.Kept.{AreKept, IsSameBut, KeepsAll};
 ghost use Rattle.grb_results.specs.Results.{IsTable};
 ghost use Rattle.grb_editions.specs.Versions.{IsTaken};
@@ -165,10 +165,11 @@ impl Versions {
         Ok(())
     }
 
-    /// The longest edition in a cell whose calls begin these: how many calls it has, and its results, which are results of these calls too.
-    /// Takes no memory.
+    /// The longest edition in a cell whose calls begin these: how many calls it has, and its results, which are results of just these first
+    /// calls. Takes no memory.
     pub fn newest(&self, calls: &[&Call]) -> Option<(usize, &[Kept])>
         ensures kept { IfSome result (λ found. AreKept (map (λ c. c.now) calls.now) found.1.now) }
+        ensures first { IfSome result (λ found. AreKept (take found.0 (map (λ c. c.now) calls.now)) found.1.now) }
         ensures within { IfSome result (λ found. found.0 ≤ length calls.now) }
         ensures counted { IfSome result (λ found. 0 < found.0) }
         ensures none { length calls.now ≡ 0 → result ≡ None }

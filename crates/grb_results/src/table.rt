@@ -1,5 +1,5 @@
 //! Results of calls, by their numbers.
-ghost use Rattle.std.specs.Prelude.{◌≡◌, ◌+◌, ◌<◌, ◌^◌, ◌++◌, ◌∷◌, [], ℕ, false, true, List, Some, None, length, slice_get, slice_set, IfNone, IfOk, IfSome, OnOk, OnErr};
+ghost use Rattle.std.specs.Prelude.{◌≡◌, ◌+◌, ◌-◌, ◌<◌, ◌^◌, ◌++◌, ◌∷◌, [], ℕ, false, true, List, Some, None, length, min, slice_get, slice_set, IfNone, IfOk, IfSome, OnOk, OnErr};
 ghost use Rattle.grb_call.specs.declared.call.Call.{Call};
 ghost use Rattle.grb_objects.specs.declared.shared_content.SharedContent.{SharedContent};
 ghost use Rattle.grb_call.specs.Store.{empty_store};
@@ -187,6 +187,7 @@ impl Table {
         ensures table { (cs : List Call) → IsTable cs self.old → IsTable cs self.new }
         ensures learnt { self.new.learnt ≡ self.old.learnt }
         ensures results { self.new.results ≡ self.old.results }
+        ensures made { self.new.made ≡ min (self.old.made + 1) (2 ^ 32 - 1) }
     {
         self.made = self.made.saturating_add(1);
         self.work = self.work.saturating_add(work);
@@ -197,6 +198,7 @@ impl Table {
         ensures table { (cs : List Call) → IsTable cs self.old → IsTable cs self.new }
         ensures learnt { self.new.learnt ≡ self.old.learnt }
         ensures results { self.new.results ≡ self.old.results }
+        ensures made { self.new.made ≡ min (self.old.made + edits) (2 ^ 32 - 1) }
     {
         self.made = self
             .made
