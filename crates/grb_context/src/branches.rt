@@ -26,8 +26,8 @@ impl Context {
     /// entry is copied. Each new pass is as one of [`Context::succeed`], and knows the calls of pass 0 that make these objects: one, or two
     /// where entries are stored or there is no such object. `room` is how many calls the branch takes beside these: then its history is full.
     ///
-    /// `RoomTooSmall` tells how many calls make the objects, where these and `room` are more than `MOST_ROOM`, or times `passes` more than
-    /// `MOST_SEATS`. `Unmade` names a chosen object to which memory is refused: free it, or leave it out. `OutOfMemory` where memory is
+    /// `RoomTooSmall` tells how many calls make the objects, where these and `room` are more than `MOST_WORDS`, or times `passes` more than
+    /// `MOST_PLACES`. `Unmade` names a chosen object to which memory is refused: free it, or leave it out. `OutOfMemory` where memory is
     /// refused to anything else, and `Panic` where a record of the new context is not taken. In each case no context is made, and this one
     /// and its passes are as before, but for what the pass has evaluated (own).
     pub fn branch(

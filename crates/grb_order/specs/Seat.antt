@@ -1,6 +1,6 @@
 -- believed: What ties the parts of a seat.
 use Rattle.std.specs.Prelude.{◌≡◌, ℕ, ◌≤◌, List, vec_capacity}
-use Rattle.grb_order.specs.declared.limits.TheConstants.{MOST_PASSES, MOST_ROOM}
+use Rattle.grb_order.specs.declared.limits.TheConstants.{MOST_PASSES, MOST_WORDS}
 use Rattle.grb_order.specs.View.{IsSound}
 use Rattle.grb_order.specs.Holding.{Holding}
 use Rattle.grb_order.specs.declared.standing.Standing.{Standing}
@@ -15,7 +15,7 @@ pub record IsSeatWith (tag size room : ℕ) (words : List ℕ) (capacity : ℕ) 
   pub role : v.role ≡ Seated
   pub number_is : tag ≡ v.view.number
   pub size_is : size ≡ room
-  pub small : room ≤ MOST_ROOM
+  pub small : room ≤ MOST_WORDS
   pub passes : v.view.passes ≤ MOST_PASSES
   pub words_are : words ≡ v.view.words
   pub roomy : room ≤ capacity

@@ -19,7 +19,7 @@ mod step;
 mod view;
 mod word;
 
-pub use limits::{MOST_PASSES, MOST_ROOM, MOST_SEATS};
+pub use limits::{MOST_PASSES, MOST_PLACES, MOST_ROOM, MOST_SEATS, MOST_WORDS};
 pub use order::Order;
 pub use seat::Seat;
 pub use step::{Entered, Look};

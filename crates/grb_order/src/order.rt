@@ -1,6 +1,6 @@
 //! The order in which the calls of all passes stand.
 ghost use Rattle.std.specs.Prelude.{◌≡◌, ◌<◌, ◌≤◌, ◌*◌, [], IfOk};
-ghost use Rattle.grb_order.specs.declared.limits.TheConstants.{MOST_PASSES, MOST_ROOM, MOST_SEATS};
+ghost use Rattle.grb_order.specs.declared.limits.TheConstants.{MOST_PASSES, MOST_PLACES, MOST_WORDS};
 ghost use Rattle.grb_order.specs.Steps.{dealing};
 ghost use Rattle.grb_order.specs.Order.{AreFresh};
 
@@ -42,7 +42,7 @@ fn deal(
 ) -> Result<Vec<Seat>, AllocError>
     requires row { (row.now.key ≡ size) × (row.now.table_id.words ≡ size.room) × (0 < size.room) }
     requires dealer { (dealer.table_id ≡ row.now.table_id) × (dealer.me ≡ (dealing 0 size.passes, [])) }
-    requires room { size.room ≤ MOST_ROOM }
+    requires room { size.room ≤ MOST_WORDS }
     requires passes { size.passes ≤ MOST_PASSES }
     ensures { IfOk result (λ seats. AreFresh row.now.table_id size.passes seats.items size.passes) }
 {
@@ -63,13 +63,13 @@ fn deal(
 impl Order {
     ghost use Rattle.grb_order.specs.Order.{room_of};
 
-    /// An order with `room` vacant words, from 1 to `MOST_ROOM`, and a seat for each of `passes` passes, from 1 to `MOST_PASSES`, where
-    /// `room` times `passes` is at most `MOST_SEATS`: the one at index k has the number k and has learnt no word. All memory is taken here,
+    /// An order with `room` vacant words, from 1 to `MOST_WORDS`, and a seat for each of `passes` passes, from 1 to `MOST_PASSES`, where
+    /// `room` times `passes` is at most `MOST_PLACES`: the one at index k has the number k and has learnt no word. All memory is taken here,
     /// the room for each seat's words too. `AllocError` where it is refused; then nothing is made.
     pub fn open(alloc: Global, room: u32, passes: u32) -> Result<(Order, Vec<Seat>), AllocError>
-        requires room { (0 < room) × (room ≤ MOST_ROOM) }
+        requires room { (0 < room) × (room ≤ MOST_WORDS) }
         requires passes { (0 < passes) × (passes ≤ MOST_PASSES) }
-        requires seats { room * passes ≤ MOST_SEATS }
+        requires places { room * passes ≤ MOST_PLACES }
         ensures room { IfOk result (λ opened. room_of opened.0 ≡ room) }
         ensures seats { IfOk result (λ opened. AreFresh opened.0 passes opened.1.items passes) }
     {

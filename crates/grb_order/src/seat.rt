@@ -1,6 +1,6 @@
 //! A pass's seat at the order.
 ghost use Rattle.std.specs.Prelude.{◌≡◌, ◌≤◌};
-ghost use Rattle.grb_order.specs.declared.limits.TheConstants.{MOST_ROOM};
+ghost use Rattle.grb_order.specs.declared.limits.TheConstants.{MOST_WORDS};
 ghost use Rattle.grb_order.specs.Order.{room_of};
 
 use crate::standing::Standing;
@@ -38,7 +38,7 @@ impl Seat {
     /// How many words the order has. Takes no memory.
     pub fn room(&self) -> u32
         ensures room { result ≡ room_of self.now.table_id }
-        ensures few { result ≤ MOST_ROOM }
+        ensures few { result ≤ MOST_WORDS }
     {
         self.room
     }

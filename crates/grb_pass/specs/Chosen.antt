@@ -1,7 +1,7 @@
 -- believed: The store of some objects of another one, and the history in which they stand (own): those of the first list are its matrices
 -- and those of the second its vectors, in their order, and what is not there is not there.
 use Rattle.std.specs.Prelude.{◌≡◌, ◌≤◌, ◌+◌, ◌*◌, ℕ, true, List, length, map, Contains}
-use Rattle.grb_order.specs.declared.limits.TheConstants.{MOST_ROOM, MOST_SEATS}
+use Rattle.grb_order.specs.declared.limits.TheConstants.{MOST_PLACES, MOST_WORDS}
 use Rattle.grb_call.specs.declared.ids.MatrixId.{MatrixId}
 use Rattle.grb_call.specs.declared.ids.Object.{Object}
 use Rattle.grb_call.specs.declared.ids.Object.TheVariants as object
@@ -21,8 +21,8 @@ room_beside s room = length (rebuilt s) + room
 
 -- a history that so many passes share may have this room
 pub record MayHaveRoom (room passes : ℕ) : Type 0 where
-  pub room_is : room ≤ MOST_ROOM
-  pub seats : room * passes ≤ MOST_SEATS
+  pub room_is : room ≤ MOST_WORDS
+  pub places : room * passes ≤ MOST_PLACES
 
 -- Why there is no new store with these objects and so much room beside the calls that make it: this many calls make it, and no history has
 -- room for all; or memory, or a record, is refused

@@ -52,7 +52,7 @@ impl<O: Helps> Shared<O> {
     }
 
     /// Learns the order to its end, as a call does that only reads. `Panic` where a record is not shown.
-    fn look(&self, pass: &mut Pass<O>) -> Result<End, Refusal>
+    pub(crate) fn look(&self, pass: &mut Pass<O>) -> Result<End, Refusal>
         requires pass { IsPassOf self.now pass.old }
         ensures pass { IsPassOf self.now pass.new }
         ensures looks { Looks (room_of self.now.order) pass.old pass.new }

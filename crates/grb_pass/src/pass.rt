@@ -1,6 +1,6 @@
 //! A pass: one thread's way into the history, with what it knows, has evaluated and was answered.
 ghost use Rattle.std.specs.Prelude.{◌≡◌, ℕ, ◌<◌, ◌≤◌, ◌+◌, ◌^◌, ◌==◌, ◌⊎◌, false, true, None, Some, length, All, IfOk, IfErr, IfSome, MatchOption, OnErr};
-ghost use Rattle.grb_order.specs.declared.limits.TheConstants.{MOST_PASSES, MOST_ROOM};
+ghost use Rattle.grb_order.specs.declared.limits.TheConstants.{MOST_PASSES, MOST_ROOM, MOST_WORDS};
 ghost use Rattle.grb_order.specs.View.{fresh, LookedLast};
 ghost use Rattle.grb_order.specs.Order.{room_of};
 ghost use Rattle.grb_records.specs.Token.{IsOf};
@@ -106,7 +106,7 @@ impl<O: Helps> Pass<O> {
         alone: bool,
     ) -> Result<Pass<O>, AllocError>
         requires number { (number ≡ seat.view.number) × (number < seat.view.passes) }
-        requires room { (room ≡ room_of seat.table_id) × (room ≤ MOST_ROOM) }
+        requires room { (room ≡ room_of seat.table_id) × (room ≤ MOST_WORDS) }
         requires fresh { seat.view ≡ fresh number seat.view.passes }
         ensures { IfOk result (λ pass. pass ≡ new_pass seat.table_id seat.view) }
     {
@@ -211,6 +211,22 @@ impl<O: Helps> Pass<O> {
         ensures { IfOk result (AreLiveObjects (store_of (known self.now))) }
     {
         self.reader.live(alloc)
+    }
+
+    /// How many matrices the known calls made, those that were freed too. Takes no memory (own).
+    pub fn matrices_given(&self) -> u32
+        ensures { result ≡ length (store_of (known self.now)).matrices }
+    {
+        let shapes = self.reader.shapes();
+        shapes.matrices()
+    }
+
+    /// How many vectors the known calls made, those that were freed too. Takes no memory (own).
+    pub fn vectors_given(&self) -> u32
+        ensures { result ≡ length (store_of (known self.now)).vectors }
+    {
+        let shapes = self.reader.shapes();
+        shapes.vectors()
     }
 
     /// Keeps the status that this answer leaves on the target of its call, which is about that object.

@@ -1,6 +1,6 @@
 //! What the passes of a context share, and their opening.
 ghost use Rattle.std.specs.Prelude.{◌≡◌, ◌<◌, ◌≤◌, ◌*◌, All, IfOk};
-ghost use Rattle.grb_order.specs.declared.limits.TheConstants.{MOST_PASSES, MOST_ROOM, MOST_SEATS};
+ghost use Rattle.grb_order.specs.declared.limits.TheConstants.{MOST_PASSES, MOST_PLACES, MOST_WORDS};
 ghost use Rattle.grb_order.specs.Order.{room_of, AreFresh};
 ghost use Rattle.grb_records.specs.Token.{HasRows};
 ghost use Rattle.grb_reader.specs.Known.{AreNew, HasNoStatus, IsPassOf};
@@ -51,7 +51,7 @@ fn passes_of<O: Helps>(
     versions: &Arc<Versions>,
     bench: &O,
 ) -> Result<Vec<Pass<O>>, AllocError>
-    requires room { (room_of order.now ≡ room) × (room ≤ MOST_ROOM) }
+    requires room { (room_of order.now ≡ room) × (room ≤ MOST_WORDS) }
     requires passes { passes ≤ MOST_PASSES }
     requires seats { AreFresh order.now passes seats.items passes }
     ensures { IfOk result (λ opened. AreNew order.now passes opened.items passes) }
@@ -67,8 +67,8 @@ fn passes_of<O: Helps>(
 }
 
 impl<O: Helps> Shared<O> {
-    /// What passes share whose history takes `room` calls, from 1 to `MOST_ROOM`, and those passes, from 1 to `MOST_PASSES`, which know no
-    /// call: the one at index k has the number k. `room` times `passes` is at most `MOST_SEATS`. Each pass has `room` cells for its
+    /// What passes share whose history takes `room` calls, from 1 to `MOST_WORDS`, and those passes, from 1 to `MOST_PASSES`, which know no
+    /// call: the one at index k has the number k. `room` times `passes` is at most `MOST_PLACES`. Each pass has `room` cells for its
     /// records. Two passes and more have a place where they make dear products together; where memory for that is refused, they make them
     /// alone. `AllocError` where memory is refused to anything else; then nothing is made.
     pub fn open(
@@ -76,9 +76,9 @@ impl<O: Helps> Shared<O> {
         room: u32,
         passes: u32,
     ) -> Result<(Shared<O>, Vec<Pass<O>>), AllocError>
-        requires room { (0 < room) × (room ≤ MOST_ROOM) }
+        requires room { (0 < room) × (room ≤ MOST_WORDS) }
         requires passes { (0 < passes) × (passes ≤ MOST_PASSES) }
-        requires seats { room * passes ≤ MOST_SEATS }
+        requires places { room * passes ≤ MOST_PLACES }
         ensures room { IfOk result (λ opened. room_of opened.0.order ≡ room) }
         ensures records { IfOk result (λ opened. HasRows passes room opened.0.records) }
         ensures passes { IfOk result (λ opened. AreNew opened.0.order passes opened.1.items passes) }
@@ -95,9 +95,9 @@ impl<O: Helps> Shared<O> {
         passes: u32,
         helped: bool,
     ) -> Result<(Shared<O>, Vec<Pass<O>>), AllocError>
-        requires room { (0 < room) × (room ≤ MOST_ROOM) }
+        requires room { (0 < room) × (room ≤ MOST_WORDS) }
         requires passes { (0 < passes) × (passes ≤ MOST_PASSES) }
-        requires seats { room * passes ≤ MOST_SEATS }
+        requires places { room * passes ≤ MOST_PLACES }
         ensures room { IfOk result (λ opened. room_of opened.0.order ≡ room) }
         ensures records { IfOk result (λ opened. HasRows passes room opened.0.records) }
         ensures passes { IfOk result (λ opened. AreNew opened.0.order passes opened.1.items passes) }

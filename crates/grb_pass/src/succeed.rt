@@ -15,6 +15,7 @@ ghost use Rattle.grb_rebuild.specs.Renumbered.{AreRenumbered};
 ghost use Rattle.grb_reader.specs.Known.{AreNew, IsPassOf, Knowing, known, none_made};
 ghost use Rattle.grb_reader.specs.Learning.{IsSteady};
 ghost use Rattle.grb_pass.specs.Chosen.{IsNoSuccessor, MayHaveRoom, NamesLive, room_beside};
+ghost use Rattle.grb_pass.specs.Looking.{IsNow, Looks};
 ghost use Rattle.grb_pass.specs.Succeeding.{made_by, AreBegun, IsOpenedWith};
 
 use crate::pass::Pass;
@@ -248,6 +249,34 @@ impl<O: Helps> Shared<O> {
     {
         let rebuild = pass.rebuild(alloc, &self.records, room, passes)?;
         Shared::begin_beside(alloc, rebuild, room, passes)
+    }
+
+    /// The same of the store as it is now: the pass first learns the newest words, as a call does that only reads, so the moment is one inside
+    /// this call. `Panic` also where a record is not shown.
+    pub fn succeed_now(
+        &self,
+        alloc: Global,
+        pass: &mut Pass<O>,
+        room: u32,
+        passes: u32,
+    ) -> Result<(Shared<O>, Vec<Pass<O>>), NoSuccessor>
+        requires pass { IsPassOf self.now pass.old }
+        requires room { (0 < room) × (room ≤ MOST_ROOM) }
+        requires passes { (0 < passes) × (passes ≤ MOST_PASSES) }
+        ensures pass { IsPassOf self.now pass.new }
+        ensures looks { Looks (room_of self.now.order) pass.old pass.new }
+        ensures now { OnOk result (IsNow (room_of self.now.order) pass.old pass.new) }
+        ensures room { IfOk result (λ opened. room_of opened.0.order ≡ room_beside (store_of (known pass.new)) room) }
+        ensures records { IfOk result (λ opened. HasRows passes (room_beside (store_of (known pass.new)) room) opened.0.records) }
+        ensures begun { IfOk result (λ opened. AreBegun opened.0 (store_of (known pass.new)) passes opened.1.items) }
+        ensures ours { IfOk result (λ opened. All (IsPassOf opened.0) opened.1.items) }
+        ensures refused { IfErr result (IsNoSuccessor room passes (store_of (known pass.new))) }
+        ensures named { IfErr result (NamesLive (store_of (known pass.new))) }
+    {
+        let Ok(_end) = self.look(pass) else {
+            return Err(NoSuccessor::Panic);
+        };
+        self.succeed(alloc, pass, room, passes)
     }
 
     /// The same without the numbers of freed objects: the matrices have the numbers 0, 1, 2 .. in their order, and so have the vectors.

@@ -1,7 +1,7 @@
 -- The steps of a call are counted.
 use Rattle.std.proofs.Common.{◌≡◌, ℕ, ◌+◌, ◌^◌, ◌<◌, ◌≤◌, List, [], ◌∷◌, ◌++◌, length, refl, sym, ap, ◌∙◌, subst, arith, length-append}
 use Rattle.grb_reader.proofs.Prelude.{append-nil, length_push, All-nil, learns, enters_word, LookedLast, View, Call, steps_of, look_steps, Counts, CountsTries, CountsCall, LooksLast, LooksOnce, LooksRise, others_end, Knowing, known, none_made, Answer, ExplainsAnswer, ground_of, IsReady, Learns, LooksAtEnd}
-use Rattle.grb_order.specs.declared.limits.TheConstants.{MOST_ROOM}
+use Rattle.grb_order.specs.declared.limits.TheConstants.{MOST_WORDS}
 use Rattle.grb_order.specs.Steps.{Looks}
 use Rattle.grb_order.specs.declared.step.Look.{Look}
 use Rattle.grb_order.specs.declared.step.Look.TheVariants.{Next, Vacant, Full}
@@ -32,7 +32,7 @@ pub counts_then : (a b c : Knowing) → Counts a b → Counts b c → Counts a c
 counts_then a b c first next = omega (arith, first, next)
 
 -- the steps while no look was added: no more than the words
-pub steps_few : (a b : Knowing) → Counts a b → b.view.looks ≡ a.view.looks → a.steps < 2 ^ 30 → length b.view.words ≤ MOST_ROOM → b.steps < 2 ^ 31
+pub steps_few : (a b : Knowing) → Counts a b → b.view.looks ≡ a.view.looks → a.steps < 2 ^ 30 → length b.view.words ≤ MOST_WORDS → b.steps < 2 ^ 31
 steps_few a b counts looks few small = let k : length b.view.looks ≡ length a.view.looks = ap length looks in omega (arith, counts)
 
 -- what a call counts, by its looks
@@ -152,7 +152,7 @@ counts_begun room old now new is e =
     }
 
 -- the steps of a call that is about to try once more
-pub steps_near : (old mid : Knowing) → Learns old mid → Counts old mid → old.steps < 2 ^ 28 → LookedLast old.view → AreLost old mid → length mid.view.words ≤ MOST_ROOM → mid.steps < 2 ^ 29
+pub steps_near : (old mid : Knowing) → Learns old mid → Counts old mid → old.steps < 2 ^ 28 → LookedLast old.view → AreLost old mid → length mid.view.words ≤ MOST_WORDS → mid.steps < 2 ^ 29
 steps_near old mid l counts begun looked tried small =
     let looks : length mid.view.looks + length old.view.words ≤ length old.view.looks + length mid.view.words = tried_few looked.0 old.view mid.view (learnt_more old mid l) (tried looked.0 looked.1) l.own looked.1 in omega (arith, counts)
 

@@ -1,6 +1,6 @@
 -- believed: What the steps inside a call leave (own).
 use Rattle.std.specs.Prelude.{◌≡◌, ℕ, ◌<◌, ◌≤◌, [], ◌∷◌, ◌++◌, length, slice_index, drop, All, Option, Some, None, Result, Ok, Err}
-use Rattle.grb_order.specs.declared.limits.TheConstants.{MOST_ROOM}
+use Rattle.grb_order.specs.declared.limits.TheConstants.{MOST_WORDS}
 use Rattle.grb_core.specs.declared.refusal.Refusal.{Refusal}
 use Rattle.grb_core.specs.declared.refusal.Refusal.TheVariants.{Panic}
 use Rattle.grb_order.specs.Word.{order_word}
@@ -24,7 +24,7 @@ pub record IsSteady (p : Knowing) : Type 0 where
   pub few : length p.shown ≤ length p.view.words
   pub sound : IsSound (room_of p.order) p.view
   pub others : All (IsOthers p.view) (drop (length p.shown) p.view.words)
-  pub small : room_of p.order ≤ MOST_ROOM
+  pub small : room_of p.order ≤ MOST_WORDS
 
 -- the word learnt first of those whose record was not shown; another pass entered it
 pub record IsNextUnshown (p : Knowing) (word : ℕ) : Type 0 where

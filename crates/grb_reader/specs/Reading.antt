@@ -1,6 +1,6 @@
 -- believed: What ties the parts of a pass (own).
 use Rattle.std.specs.Prelude.{◌≡◌, ℕ, ◌+◌, ◌≤◌, true, List, length, drop, All, vec_capacity, Some, None, Result, Ok, Err}
-use Rattle.grb_order.specs.declared.limits.TheConstants.{MOST_ROOM}
+use Rattle.grb_order.specs.declared.limits.TheConstants.{MOST_WORDS}
 use Rattle.grb_core.specs.declared.refusal.Refusal.{Refusal}
 use Rattle.grb_core.specs.declared.refusal.Refusal.TheVariants.{OutOfMemory}
 use Rattle.grb_order.specs.View.{IsOthers, IsSound}
@@ -35,7 +35,7 @@ pub record IsReaderWith (number size : ℕ) (seat : Holding) (shown : List Shown
   pub room : walk.shapes.room + length shown ≡ seat.table_id.words
   pub roomy : seat.table_id.words ≤ capacity
   pub room_is : size ≡ seat.table_id.words
-  pub small : seat.table_id.words ≤ MOST_ROOM
+  pub small : seat.table_id.words ≤ MOST_WORDS
 
 abbrev pub IsReader : Inside → Type 0
 IsReader r = IsReaderWith r.number r.statuses.room r.seat r.tokens.items (vec_capacity r.tokens) r.targets

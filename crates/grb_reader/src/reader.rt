@@ -17,7 +17,7 @@
 //! order at most, `tell` one for each word that it learns and three of the first word.
 ghost use Rattle.std.specs.Prelude.{◌≡◌, ◌<◌, ◌≤◌, ◌+◌, ◌^◌, true, [], ◌∷◌, ◌++◌, length, All, None, Some, slice_get, slice_index, MatchOption, IfOk};
 ghost use Rattle.std.specs.Option.{option_map};
-ghost use Rattle.grb_order.specs.declared.limits.TheConstants.{MOST_ROOM};
+ghost use Rattle.grb_order.specs.declared.limits.TheConstants.{MOST_WORDS};
 ghost use Rattle.grb_order.specs.Word.{number_of, index_of, StartsWith};
 ghost use Rattle.grb_order.specs.View.{fresh, is_told, LookedLast};
 ghost use Rattle.grb_order.specs.Order.{room_of};
@@ -95,7 +95,7 @@ impl Reader {
     /// A reader that knows no call, with memory for all that it can learn. `AllocError` where memory is refused.
     pub fn open(alloc: Global, number: u32, seat: Seat, room: u32) -> Result<Reader, AllocError>
         requires number { (number ≡ seat.view.number) × (number < seat.view.passes) }
-        requires room { (room ≡ room_of seat.table_id) × (room ≤ MOST_ROOM) }
+        requires room { (room ≡ room_of seat.table_id) × (room ≤ MOST_WORDS) }
         requires fresh { seat.view ≡ fresh number seat.view.passes }
         ensures { IfOk result (λ reader. reader ≡ new_pass seat.table_id seat.view) }
     {
@@ -229,7 +229,7 @@ impl Reader {
     /// How many words the order has.
     pub fn room(&self) -> u32
         ensures room { result ≡ room_of self.now.order }
-        ensures few { result ≤ MOST_ROOM }
+        ensures few { result ≤ MOST_WORDS }
     {
         self.seat.room()
     }

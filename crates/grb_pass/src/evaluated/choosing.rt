@@ -1,7 +1,7 @@
 //! Some objects, evaluated for who goes on with them, and nothing else.
 ghost use Rattle.std.specs.Prelude.{◌≡◌, ◌<◌, ◌≤◌, ◌+◌, ◌*◌, ◌^◌, false, true, [], length, map, All, Contains, IfOk, IfErr, IfSome, IfNone, OnErr, OnOk};
 ghost use Rattle.std.specs.Option.{option_map, option_map_or};
-ghost use Rattle.grb_order.specs.declared.limits.TheConstants.{MOST_PASSES, MOST_ROOM, MOST_SEATS};
+ghost use Rattle.grb_order.specs.declared.limits.TheConstants.{MOST_PASSES, MOST_PLACES, MOST_ROOM, MOST_WORDS};
 ghost use Rattle.grb_records.specs.Token.{IsOf};
 ghost use Rattle.grb_call.specs.History.{calls_of, store_of};
 ghost use Rattle.grb_call.specs.Shapes.{is_live};
@@ -18,7 +18,7 @@ ghost use Rattle.grb_reader.specs.Known.{known};
 use super::Evaluated;
 use grb_call::{MatrixId, Object, VectorId};
 use grb_objects::{Helps, SharedObject};
-use grb_order::{MOST_ROOM, MOST_SEATS};
+use grb_order::{MOST_PLACES, MOST_WORDS};
 use grb_reader::Reader;
 use grb_rebuild::{NoSuccessor, Rebuild, needed, rebuild_all};
 use grb_records::Records;
@@ -33,11 +33,11 @@ fn room_with(needed: u64, room: u32, passes: u32) -> Option<u32>
     ensures some { IfSome result (λ whole. (whole ≡ needed + room) × MayHaveRoom whole passes) }
     ensures none { IfNone result (MayHaveRoom (needed + room) passes → ⊥) }
 {
-    if needed > u64::from(MOST_ROOM) {
+    if needed > u64::from(MOST_WORDS) {
         return None;
     }
     let whole = needed as u32 + room;
-    if whole > MOST_ROOM || whole.saturating_mul(passes) > MOST_SEATS {
+    if whole > MOST_WORDS || whole.saturating_mul(passes) > MOST_PLACES {
         return None;
     }
     Some(whole)

@@ -14,7 +14,7 @@ use crate::tests::steps::{ROOM, Step, expect_of_next, expect_steps};
 use crate::tests::stores::open;
 use grb_call::Reply::{Count, Dims, MadeMatrix, MadeVector, Size};
 use grb_call::{MatrixId, VectorId};
-use grb_context::{Context, LiveObjects, NoSuccessor, Pass, Renumbered};
+use grb_context::{Context, LiveObjects, Pass, Renumbered};
 use grb_core::Value::{Bool, Uint64};
 use grb_core::{Domain, Monoid, Refusal};
 use std::alloc::Global;
@@ -277,8 +277,8 @@ static KEPT: [Step; 6] = [
     Knows(8),
 ];
 
-/// No history takes so many calls beside those that make the store, shared by so many passes.
-fn expect_none<R: Abort>(
+/// A successor that so many passes share takes as many calls as a store may, next to those that make its objects.
+fn expect_room<R: Abort>(
     rt: &R,
     alloc: Global,
     context: &Context,
@@ -291,25 +291,29 @@ fn expect_none<R: Abort>(
     requires passes { (0 < passes) × (passes ≤ 256) }
     ensures { IsPassOf context.now pass.new }
 {
-    let none = context.succeed_live(alloc, pass, room, passes).err();
-    let needed = u64::from(NEEDED);
-    let wanted = Some(NoSuccessor::RoomTooSmall { needed });
-    same(rt, none, wanted, ("the room", room, passes));
+    let left = match context.succeed_live(alloc, pass, room, passes) {
+        Ok((_next, opened, _numbers)) => match opened.first() {
+            Some(first) => Some(first.room_left()),
+            None => None,
+        },
+        Err(_) => None,
+    };
+    same(rt, left, Some(room), ("the room", room, passes));
 }
 
 fn tell_of_rooms<R: Abort>(rt: &R, alloc: Global, context: &Context, pass: &mut Pass)
     requires { IsPassOf context.now pass.old }
 {
     expect_steps(rt, alloc, context, pass, &MADE, 0);
-    expect_none(rt, alloc, context, pass, 65_534, 1);
-    expect_none(rt, alloc, context, pass, 4_094, 256);
+    expect_room(rt, alloc, context, pass, 65_536, 1);
+    expect_room(rt, alloc, context, pass, 4_096, 256);
     go_on_with(rt, alloc, context, pass, 1, &JUST);
     expect_steps(rt, alloc, context, pass, &KEPT, 0);
 }
 
-/// How many calls make the store is told where no history has room for more beside them.
+/// What makes the objects of a successor does not count against its room.
 #[test]
-fn a_room_that_no_history_has_makes_no_successor_without_freed_numbers(rt: HostRuntime) {
+fn a_successor_without_freed_numbers_has_all_the_room_that_a_store_may(rt: HostRuntime) {
     let mut store = open(&rt, rt.alloc(), ROOM);
     tell_of_rooms(&rt, rt.alloc(), &store.context, &mut store.p);
 }

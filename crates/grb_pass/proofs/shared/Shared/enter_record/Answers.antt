@@ -1,6 +1,6 @@
 use Rattle.std.proofs.Common.{◌≡◌, ◌<◌, ◌≤◌, ◌^◌, false, sym, ap, subst, ◌∙◌, arith}
 use Rattle.grb_pass.proofs.Prelude.{Err, err_from_is_err_and, TableId, room_of, Call, is_build, Knowing, CountsCall, CountsTries, ExplainsAnswer, IsCaughtUp, ground_of, refused_put, explains_refused, explains_before, counts_looked, counts_tried, looks_ready}
-use Rattle.grb_order.specs.declared.limits.TheConstants.{MOST_ROOM}
+use Rattle.grb_order.specs.declared.limits.TheConstants.{MOST_WORDS}
 use Rattle.grb_reader.specs.Learning.{IsReady}
 use Rattle.grb_pass.proofs.shared.Shared.enter_record.Goals as goal
 
@@ -9,7 +9,7 @@ enter_token-requires-clause-few g c =
     let room = room_of c.args.self.now.order in let mid = c.ready.new.pass in
     let counted : CountsCall room c.args.pass.now mid = counts_looked room c.args.pass.now mid c.ready.ensures.learns c.ready.ensures.counts c.requires.begun c.ready.ensures.looks in
     let ready : IsReady room mid c.args.call = c.in_ok-ready.ensures.ready in
-    let small : room ≤ MOST_ROOM = subst (λ (o : TableId). room_of o ≤ MOST_ROOM) c.ready.ensures.pass.order c.ready.ensures.steady.small in
+    let small : room ≤ MOST_WORDS = subst (λ (o : TableId). room_of o ≤ MOST_WORDS) c.ready.ensures.pass.order c.ready.ensures.steady.small in
     let few : mid.steps < 2 ^ 28 = omega (arith, counted.few, ready.room_left, small) in
     subst (λ (k : Knowing). k.steps < 2 ^ 28) (sym c.put.ensures.same) few
 

@@ -1,6 +1,6 @@
 use Rattle.std.proofs.Common.{◌≡◌, ◌^◌, ◌<◌, ◌≤◌, false, None, refl, sym, subst, ap, arith, ◌∙◌}
 use Rattle.grb_pass.proofs.Prelude.{err_from_is_err_and, TableId, room_of, Shown, IsOf, Call, is_build, refused_by_shapes, shapes_of, reply_of, store_of, Knowing, known, IsRefused, Learns, OwnBelow, unrefused_by_shapes, learns_refl, learns_then, pass_push, explains_refused, explains_won, known_entered, learns_lost, refused_before, counts_then, counts_same, counts_won, counts_lost, lost_again, steps_near, steps_lost, tried_none, own_learns, own_lost}
-use Rattle.grb_order.specs.declared.limits.TheConstants.{MOST_ROOM}
+use Rattle.grb_order.specs.declared.limits.TheConstants.{MOST_WORDS}
 use Rattle.grb_order.specs.Word.{order_word}
 use Rattle.grb_reader.specs.Learning.{IsReady}
 use Rattle.grb_pass.proofs.shared.Shared.enter_token.Goals as goal
@@ -16,7 +16,7 @@ tries-init g c =
       fresh = c.requires.fresh;
       call = refl;
       ready = c.requires.ready;
-      small = subst (λ (o : TableId). room_of o ≤ MOST_ROOM) c.requires.pass.order c.requires.steady.small;
+      small = subst (λ (o : TableId). room_of o ≤ MOST_WORDS) c.requires.pass.order c.requires.steady.small;
       counts = counts_same pass pass refl refl;
       made = λ plain. refl;
       lost = λ earlier is. tried_none earlier pass.view is;

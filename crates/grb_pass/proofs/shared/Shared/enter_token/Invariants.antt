@@ -1,5 +1,5 @@
 use Rattle.std.proofs.Common.{◌≡◌, ◌<◌, ◌≤◌, ◌-◌, ◌^◌, false, length}
-use Rattle.grb_order.specs.declared.limits.TheConstants.{MOST_ROOM}
+use Rattle.grb_order.specs.declared.limits.TheConstants.{MOST_WORDS}
 use Rattle.grb_pass.proofs.Prelude.{room_of, IsOf, is_build, IsPassOf, Counts, Learns, OwnBelow, AreLost}
 use Rattle.grb_reader.specs.Learning.{IsReady}
 use Rattle.grb_pass.proofs.shared.Shared.enter_token.Given as goal
@@ -14,7 +14,7 @@ invariant-tries g l = record {
   fresh : OwnBelow l.token.index l.pass.view;
   call : l.token.call ≡ l.fn.token.call;
   ready : IsReady (room_of l.self.order) l.pass l.fn.token.call;
-  small : room_of l.self.order ≤ MOST_ROOM;
+  small : room_of l.self.order ≤ MOST_WORDS;
   counts : Counts l.fn.pass l.pass;
   made : is_build l.fn.token.call ≡ false → l.pass.made ≡ l.fn.pass.made;
   lost : AreLost l.fn.pass l.pass;
