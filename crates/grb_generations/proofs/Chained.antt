@@ -17,7 +17,7 @@ use Rattle.grb_generations.specs.Keeping.{kept_store}
 use Rattle.grb_generations.specs.Lossless.{Later, GoesOnFrom, AreChained, all_entered, entries_inside, history_of, last_seen}
 use Rattle.grb_generations.proofs.Living.{kept_shows}
 
-calls_of-append : (g h : History) → calls_of (g ++ h) ≡ calls_of g ++ calls_of h
+pub calls_of-append : (g h : History) → calls_of (g ++ h) ≡ calls_of g ++ calls_of h
 calls_of-append [] h = refl
 calls_of-append (e ∷ g) h = ap (λ (cs : List Call). e.1 ∷ cs) (calls_of-append g h)
 
@@ -44,7 +44,7 @@ numbered_before n s t are matrices vectors more_matrices more_vectors = record {
 }
 
 -- many calls commute
-all_commute : CallsLeaveTheSame → (n : NumbersSeen) (s : Store) (cs : List Call) → length n.matrices.carried ≤ length s.matrices → length n.vectors.carried ≤ length s.vectors → AreNumbersOf n (after_all s (map (inside n) cs))
+pub all_commute : CallsLeaveTheSame → (n : NumbersSeen) (s : Store) (cs : List Call) → length n.matrices.carried ≤ length s.matrices → length n.vectors.carried ≤ length s.vectors → AreNumbersOf n (after_all s (map (inside n) cs))
     → seen_store n (after_all s (map (inside n) cs)) ≡ after_all (seen_store n s) cs
 all_commute same n s [] matrices vectors are = refl
 all_commute same n s (c ∷ cs) matrices vectors are =

@@ -1,5 +1,5 @@
 -- The end of a generation: which pass lies there, and what a member that meets it learns.
-use Rattle.std.proofs.Common.{◌≡◌, ℕ, ◌+◌, ◌<◌, ◌≤◌, Bool, true, false, Some, None, Result, Ok, Err, List, [], ◌∷◌, ◌++◌, length, refl, sym, ap, subst, ◌∙◌, arith}
+use Rattle.std.proofs.Common.{◌≡◌, ℕ, ◌+◌, ◌<◌, ◌≤◌, Bool, true, false, IfSome, Option, Some, None, Result, Ok, Err, List, [], ◌∷◌, ◌++◌, length, refl, sym, ap, subst, ◌∙◌, arith}
 use Rattle.std.specs.Prelude.{slice_get}
 use Rattle.std.specs.Result.{is_err}
 use Rattle.std.proofs.lemmas.List.{length-append}
@@ -15,16 +15,21 @@ use Rattle.grb_context.specs.Known.{IsPassOf, Knowing, Shared, known}
 use Rattle.grb_context.specs.Meeting.{Met}
 use Rattle.grb_context.specs.Succeeding.{AreBegun}
 use Rattle.grb_generations.specs.Follows.{Follows}
-use Rattle.grb_generations.specs.Keeping.{IsAtEnd, Suffice, kept_numbers, kept_store}
+use Rattle.grb_generations.specs.Chain.{Chain}
+use Rattle.grb_generations.specs.Keeping.{Began, IsAtEnd, Suffice, kept_numbers, kept_store}
+use Rattle.grb_generations.specs.Placed.{IsPlaced}
+use Rattle.grb_numbers.specs.Numbers.{NumbersSeen}
+use Rattle.grb_numbers.specs.Seen.{AreNumbersOf}
 use Rattle.grb_generations.specs.Reasons.{IsMember}
-use Rattle.grb_generations.specs.Seated.{Brings, GoesOn, IsEnded, Moves, Seated}
+use Rattle.grb_generations.specs.Seated.{Brings, GoesOn, IsEnded, Moves, Seated, Showing}
 use Rattle.grb_generations.specs.Sites.{IsEndOf, IsSiteIn}
 use Rattle.grb_generations.specs.declared.ended.Ended.{Ended}
 use Rattle.grb_generations.specs.declared.reason.NoGeneration.{NoGeneration}
 use Rattle.grb_generations.specs.declared.site.Site.{Site}
 use Rattle.grb_generations.specs.declared.told.Told.{Told}
 use Rattle.grb_generations.proofs.AtEnd.{GoesFurther, full_stays, met_further}
-use Rattle.grb_generations.proofs.Keeping.{sits}
+use Rattle.grb_generations.proofs.Keeping.{numbers_at_end, sits}
+use Rattle.grb_generations.proofs.Lasting.{moves_keep}
 
 -- the pass that lies at the end of a generation, after a meeting, is one that may lie there
 pub met_end : (site : Site) (e : Ended) (q other : Knowing) (r : Result (Unit {0}) Refusal) → IsEndOf site e → Met site.mark.context e.pass q other r → IsEndOf site (record e { pass = q })
@@ -68,6 +73,11 @@ brings_by m page later ended begins own = record {
   all = ended.all;
 }
 
+pub brings_any : (m : Seated) (page : Reached Told) (r : Option (Showing × Knowing)) → IsEnded m page → IfSome r (λ t. IsPrefix page.told t.0.page.told) → IfSome r (λ t. IsPrefix m.page.told t.0.page.told)
+    → IfSome r (λ t. Brings m t.0.page)
+brings_any m page None ended begins own = tt
+brings_any m page (Some t) ended begins own = brings_by m page t.0.page ended begins own
+
 -- and its generation is a later one
 pub later_by : (m : Seated) (page later : Reached Told) (generation : ℕ) → IsEnded m page → IsPrefix page.told later.told → length later.told ≡ generation + 1 → m.generation < generation
 later_by m page later generation ended begins count =
@@ -76,16 +86,19 @@ later_by m page later generation ended begins count =
     omega (arith, within, count)
 
 -- what is made of the end of a member's generation may follow that in the chronicle
-pub may_follow : (m : Seated) (next : Told) (passes : List Knowing) → IsMember m → IsAtEnd m.pass → next.last ≡ m.pass → AreBegun next.context (kept_store (store_of (known m.pass))) (length passes) passes
+pub may_follow : (m : Seated) (next : Told) (passes : List Knowing) → IsMember m → IsAtEnd m.pass → next.last ≡ m.pass → AreBegun next.context (kept_store (store_of (known m.pass))) (length passes) passes → length passes ≡ m.chain.members
     → next.numbers ≡ kept_numbers m.numbers (store_of (known m.pass)) → Suffice next.numbers (room_of next.context.order) → MayFollow Follows m.page.told next
-may_follow m next passes is end last begun numbers suffices own at =
+may_follow m next passes is end last begun count numbers suffices own at =
     let same : is.placed.here.own ≡ own = last_one m.page.told is.placed.here.own own is.placed.here.last at in
     let context : own.context ≡ m.context = ap (λ (t : Told). t.context) (sym same) ∙ is.placed.here.context_is in
     let own_numbers : own.numbers ≡ m.numbers = ap (λ (t : Told). t.numbers) (sym same) ∙ is.placed.here.numbers_are in
     record {
       pass = subst (λ (y : Shared × Knowing). IsPassOf y.0 y.1) (λ i. (sym context i, sym last i)) is.pass;
       end = subst IsAtEnd (sym last) end;
+      went_on = subst (λ (y : Told × Knowing). Began y.0 y.1) (λ i. (same i, sym last i)) is.began;
+      numbered = subst (λ (y : NumbersSeen × Knowing). AreNumbersOf y.0 (store_of (known y.1))) (λ i. (sym own_numbers i, sym last i)) (numbers_at_end m.numbers m.pass is.numbers end);
       passes = passes;
+      count = count ∙ sym is.passes ∙ ap (λ (p : Knowing). p.view.passes) (sym last);
       begun = subst (λ (p : Knowing). AreBegun next.context (kept_store (store_of (known p))) (length passes) passes) (sym last) begun;
       numbers_are = numbers ∙ (λ i. kept_numbers (sym own_numbers i) (store_of (known (sym last i))));
       suffices = suffices;
@@ -122,6 +135,24 @@ end_left m site page next is end at chain told last = record {
   all = ap known last;
 }
 
+-- who takes a seat of a generation that its page brings has moved
+pub sat_down : (m n : Seated) (told : Told) → IsAtEnd m.pass → IsMember m → n.pass.view.number ≡ m.pass.view.number → n.chain ≡ m.chain → IsPlaced n.chain.book n.context n.numbers n.generation n.page → IsLast n.page.told told
+    → GoesOn n.chain.room n.chain.members told n.pass → Brings m n.page → Moves m n
+sat_down m n told end member number chain placed last on brings =
+    let same : told ≡ placed.here.own = last_one n.page.told told placed.here.own last placed.here.last in
+    let own : GoesOn n.chain.room n.chain.members placed.here.own n.pass = subst (λ (t : Told). GoesOn n.chain.room n.chain.members t n.pass) same on in
+    let within = slice_get_within n.page.told (m.generation + 1) brings.next brings.at in
+    record {
+      end = end;
+      later = omega (arith, within, placed.count);
+      number = number;
+      placed = placed;
+      goes_on = own;
+      chain = chain;
+      brings = brings;
+      keeps = moves_keep m n member placed own brings;
+    }
+
 -- who made the next generation, and sits there
 pub record StepsOn (m n : Seated) (next : Told) : Type 0 where
   pub end : IsAtEnd m.pass
@@ -132,32 +163,29 @@ pub record StepsOn (m n : Seated) (next : Told) : Type 0 where
   pub is : next ≡ record { context = n.context; numbers = n.numbers; last = m.pass }
   pub generation : n.generation ≡ m.generation + 1
   pub number : n.pass.view.number ≡ m.pass.view.number
-  pub goes_on : GoesOn m.chain.room n.context n.numbers n.pass
+  pub goes_on : GoesOn m.chain.room m.chain.members next n.pass
   pub reason : n.reason ≡ None
 
 module _ (m n : Seated) (next : Told) (member : IsMember m) (on : StepsOn m n next) where
-  stepped_room : GoesOn n.chain.room n.context n.numbers n.pass
-  stepped_room = subst (λ (room : ℕ). GoesOn room n.context n.numbers n.pass) (ap (λ c. c.room) (sym on.chain)) on.goes_on
+  stepped_goes : GoesOn n.chain.room n.chain.members next n.pass
+  stepped_goes = subst (λ (c : Chain). GoesOn c.room c.members next n.pass) (sym on.chain) on.goes_on
 
-  pub stepped_member : IsMember n
-  stepped_member = sits n (record {
-    chain = on.page ∙ member.placed.chain ∙ ap (λ c. c.book) (sym on.chain);
-    here = record {
-      own = next;
-      last = subst (λ (l : List Told). IsLast l next) (sym on.told) (last_push m.page.told next);
-      context_is = ap (λ (t : Told). t.context) on.is;
-      numbers_are = ap (λ (t : Told). t.numbers) on.is;
-    };
+  stepped_last : IsLast n.page.told next
+  stepped_last = subst (λ (l : List Told). IsLast l next) (sym on.told) (last_push m.page.told next)
+
+  stepped_placed : IsPlaced n.chain.book n.context n.numbers n.generation n.page
+  stepped_placed = record {
+    chain = on.page ∙ member.placed.chain ∙ ap (λ (c : Chain). c.book) (sym on.chain);
+    here = record { own = next; last = stepped_last; context_is = ap (λ (t : Told). t.context) on.is; numbers_are = ap (λ (t : Told). t.numbers) on.is };
     count = omega (arith, ap length on.told, length-append m.page.told (next ∷ []), member.placed.count, on.generation);
     linked = on.linked;
-  }) stepped_room on.reason
+  }
+
+  pub stepped_member : IsMember n
+  stepped_member = sits n next stepped_placed stepped_last stepped_goes on.reason
+
+  stepped_brings : Brings m n.page
+  stepped_brings = brings_own m n.page next member on.told (ap (λ (t : Told). t.last) on.is)
 
   pub stepped_moves : Moves m n
-  stepped_moves = record {
-    end = on.end;
-    later = omega (arith, on.generation);
-    number = on.number;
-    goes_on = stepped_room;
-    chain = on.chain;
-    brings = brings_own m n.page next member on.told (ap (λ (t : Told). t.last) on.is);
-  }
+  stepped_moves = sat_down m n next on.end member on.number on.chain stepped_placed stepped_last stepped_goes stepped_brings

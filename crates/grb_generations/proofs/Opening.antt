@@ -11,23 +11,23 @@ use Rattle.grb_generations.specs.Seated.{AreNewMembers, IsNewMember, Seated}
 some_is : {X : Type 0} (x y : X) → ◌≡◌ {A = Option X} (Some x) (Some y) → x ≡ y
 some_is x y e = cc
 
--- these are passes by their numbers from this one on, which know no call
-abbrev pub AreLeft : ℕ → List Knowing → Type 0
-AreLeft from rest = (k : ℕ) (p : Knowing) → slice_get rest k ≡ Some p → (p.view.number ≡ from + k) × (known p ≡ [])
+-- these are passes by their numbers from this one on, of so many, which know no call
+abbrev pub AreLeft : ℕ → ℕ → List Knowing → Type 0
+AreLeft passes from rest = (k : ℕ) (p : Knowing) → slice_get rest k ≡ Some p → (p.view.number ≡ from + k) × (known p ≡ []) × (p.view.passes ≡ passes)
 
-pub left_all : (order : TableId) (passes : ℕ) (opened : List Knowing) → AreNew order passes opened passes → AreLeft 0 opened
+pub left_all : (order : TableId) (passes : ℕ) (opened : List Knowing) → AreNew order passes opened passes → AreLeft passes 0 opened
 left_all order passes opened new = λ k p at.
     let near : k < passes = omega (arith, slice_get_within opened k p at, new.count) in
     let q : Knowing = new_pass order (fresh k passes) in
     let is : q ≡ p = some_is q p (sym (new.each k near) ∙ at) in
     let number : p.view.number ≡ k = sym (ap (λ (x : Knowing). x.view.number) is) in
-    (omega (arith, number), sym (ap known is))
+    (omega (arith, number), sym (ap known is), sym (ap (λ (x : Knowing). x.view.passes) is))
 
-pub left_head : (from : ℕ) (p : Knowing) (rest : List Knowing) → AreLeft from (p ∷ rest) → (p.view.number ≡ from) × (known p ≡ [])
-left_head from p rest left = let h = left 0 p refl in (omega (arith, h.0), h.1)
+pub left_head : (passes from : ℕ) (p : Knowing) (rest : List Knowing) → AreLeft passes from (p ∷ rest) → (p.view.number ≡ from) × (known p ≡ []) × (p.view.passes ≡ passes)
+left_head passes from p rest left = let h = left 0 p refl in (omega (arith, h.0), h.1, h.2)
 
-pub left_tail : (from : ℕ) (p : Knowing) (rest : List Knowing) → AreLeft from (p ∷ rest) → AreLeft (from + 1) rest
-left_tail from p rest left = λ k q at. let h = left (suc k) q at in (omega (arith, h.0), h.1)
+pub left_tail : (passes from : ℕ) (p : Knowing) (rest : List Knowing) → AreLeft passes from (p ∷ rest) → AreLeft passes (from + 1) rest
+left_tail passes from p rest left = λ k q at. let h = left (suc k) q at in (omega (arith, h.0), h.1, h.2)
 
 -- what stands in a list to which one was put
 push_at : {X : Type 0} (xs : List X) (x : X) (k : ℕ) (y : X) → slice_get (xs ++ x ∷ []) k ≡ Some y → (slice_get xs k ≡ Some y) ⊎ ((k ≡ length xs) × (x ≡ y))

@@ -7,6 +7,7 @@ pub mod Lossless
 pub mod Meeting
 pub mod Placed
 pub mod Reasons
+pub mod Reserve
 pub mod Seated
 pub mod Sites
 pub mod Snapped

@@ -1,8 +1,8 @@
 -- believed: Where a generation stands in the chronicle of its chain (own).
-use Rattle.std.specs.Prelude.{◌≡◌, ◌+◌, ℕ, List, length}
+use Rattle.std.specs.Prelude.{◌≡◌, ◌+◌, ℕ, List, [], ◌∷◌, length}
 use Rattle.grb_chronicle.specs.Linked.{AreLinked, IsLast, Reached}
 use Rattle.grb_chronicle.specs.Pages.{Book}
-use Rattle.grb_context.specs.Known.{Shared}
+use Rattle.grb_context.specs.Known.{Shared, known}
 use Rattle.grb_numbers.specs.Numbers.{NumbersSeen}
 use Rattle.grb_generations.specs.Follows.{Follows}
 use Rattle.grb_generations.specs.declared.told.Told.{Told}
@@ -13,6 +13,12 @@ pub record IsLastOf (told : List Told) (context : Shared) (numbers : NumbersSeen
   pub last : IsLast told own
   pub context_is : own.context ≡ context
   pub numbers_are : own.numbers ≡ numbers
+
+-- one generation, which no other came before: the pass that is told with it knew no call
+pub record IsFirstOf (told : List Told) : Type 0 where
+  pub first : Told
+  pub alone : told ≡ first ∷ []
+  pub none : known first.last ≡ []
 
 -- the page is one of this chain, and its last generation is the one of this number, with this store and these numbers; each generation
 -- on it comes after the one before it

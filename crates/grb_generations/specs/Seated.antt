@@ -1,11 +1,15 @@
 -- believed: What a contract sees of a member of a chain of stores, and what stands behind its move to a later generation (own).
-use Rattle.std.specs.Prelude.{◌≡◌, ℕ, ◌<◌, ◌+◌, false, List, [], length, Option, Some, slice_get}
+use Rattle.std.specs.Prelude.{◌≡◌, ◌⊎◌, ℕ, ◌<◌, ◌+◌, ◌++◌, false, List, [], length, Option, Some, Err, slice_get}
 use mathlib.Core.List.{IsPrefix}
 use Rattle.grb_chronicle.specs.Linked.{Reached}
+use Rattle.grb_core.specs.declared.refusal.Refusal.TheVariants.{OrderFull}
 use Rattle.grb_order.specs.Order.{room_of}
+use Rattle.grb_call.specs.Kinds.{class_of}
+use Rattle.grb_call.specs.declared.class.Class.TheVariants.{Makes}
 use Rattle.grb_call.specs.declared.call.Call.{Call}
-use Rattle.grb_call.specs.History.{store_of}
-use Rattle.grb_context.specs.Known.{Shared, Knowing, known}
+use Rattle.grb_call.specs.History.{after_all, store_of}
+use Rattle.grb_call.specs.Store.{Store}
+use Rattle.grb_context.specs.Known.{IsPassOf, Shared, Knowing, known}
 use Rattle.grb_context.specs.Explains.{Answer, is_entered}
 use Rattle.grb_context.specs.Answered.{Answered}
 use Rattle.grb_context.specs.Succeeding.{BeginsWith}
@@ -14,7 +18,9 @@ use Rattle.grb_numbers.specs.Numbers.{NumbersSeen, first_numbers}
 use Rattle.grb_numbers.specs.Seen.{seen_store}
 use Rattle.grb_generations.specs.Chain.{Chain}
 pub use Rattle.grb_generations.specs.Keeping.{IsAtEnd}
-use Rattle.grb_generations.specs.Keeping.{AreNumbersFor, kept_numbers, kept_store}
+use Rattle.grb_generations.specs.Keeping.{AreNumbersFor, kept_store}
+use Rattle.grb_generations.specs.Placed.{IsPlaced}
+use Rattle.grb_generations.specs.Reserve.{HasPlace}
 use Rattle.grb_generations.specs.declared.reason.NoGeneration.{NoGeneration}
 use Rattle.grb_generations.specs.declared.site.Site.{Site}
 use Rattle.grb_generations.specs.declared.told.Told.{Told}
@@ -44,18 +50,22 @@ pub record Showing : Type 0 where
   pub next : Standing
   pub page : Reached Told
 
--- The pass goes on where one ends that was at its end: it is one of this context, and knows the calls that make the objects anew which were
--- there, and no others. The store, as it is seen by these numbers, is the one which all calls leave that the last one knew, as that was seen.
--- The history takes this room beside those calls
-pub record GoesOn (room : ℕ) (context : Shared) (numbers : NumbersSeen) (p : Knowing) : Type 0 where
-  pub last : Knowing
-  pub at_end : IsAtEnd last
-  pub before : NumbersSeen
-  pub begins : BeginsWith context (kept_store (store_of (known last))) p.view.number p
-  pub numbers_are : numbers ≡ kept_numbers before (store_of (known last))
-  pub numbered : AreNumbersFor numbers p
-  pub seen : seen_store numbers (store_of (known p)) ≡ seen_store before (store_of (known last))
-  pub room_is : room_of context.order ≡ length (known p) + room
+-- The pass goes on with the generation that is told: it is one of its store, of so many passes, and knows the calls that make the objects
+-- anew which were there where the pass that is told with it ended, and no others. The history takes this room beside those calls
+pub record GoesOn (room members : ℕ) (told : Told) (p : Knowing) : Type 0 where
+  pub at_end : IsAtEnd told.last
+  pub begins : BeginsWith told.context (kept_store (store_of (known told.last))) p.view.number p
+  pub passes_are : p.view.passes ≡ members
+  pub numbered : AreNumbersFor told.numbers p
+  pub room_is : room_of told.context.order ≡ length (known p) + room
+
+-- the store that the member's pass knows, as users see it
+abbrev pub seen_of : Seated → Store
+seen_of m = seen_store m.numbers (store_of (known m.pass))
+
+-- Nothing is lost: what the member sees later is what it saw, with some calls, and then these, made on it
+abbrev pub Keeps : Seated → Seated → List Call → Type 0
+Keeps old new cs = (learnt : List Call) × (seen_of new ≡ after_all (seen_of old) (learnt ++ cs))
 
 -- a member of this chain that sits in the first generation, with the pass of this number of this store, and knows no call; numbers are the
 -- same outside
@@ -98,23 +108,26 @@ pub record Brings (old : Seated) (page : Reached Told) : Type 0 where
   pub at : slice_get page.told (old.generation + 1) ≡ Some next
   pub all : known next.last ≡ known old.pass
 
--- A member that moved: its generation was full and it knew all of that; it has the pass of its number in a later generation, which goes on
--- where one ends and takes the chain's room
+-- A member that moved: its generation was full and it knew all of that; it has the pass of its number in a later generation, the last on its
+-- page, which goes on with what is told of that. So no call that it knew is left out of what it sees
 pub record Moves (old new : Seated) : Type 0 where
   pub end : IsAtEnd old.pass
   pub later : old.generation < new.generation
   pub number : new.pass.view.number ≡ old.pass.view.number
-  pub goes_on : GoesOn new.chain.room new.context new.numbers new.pass
+  pub placed : IsPlaced new.chain.book new.context new.numbers new.generation new.page
+  pub goes_on : GoesOn new.chain.room new.chain.members placed.here.own new.pass
   pub chain : new.chain ≡ old.chain
   pub brings : Brings old new.page
+  pub keeps : Keeps old new []
 
--- a member that sits where it sat
+-- a member that sits where it sat, with a pass of the store there
 pub record IsThere (old new : Seated) : Type 0 where
   pub chain : new.chain ≡ old.chain
   pub page : new.page ≡ old.page
   pub context : new.context ≡ old.context
   pub numbers : new.numbers ≡ old.numbers
   pub generation : new.generation ≡ old.generation
+  pub pass : IsPassOf new.context new.pass
 
 -- how a member came from one state to another with no call of its own entered: it stayed, or it moved, or a call where it sits was answered
 -- and not entered; or that and more, one after another
@@ -132,9 +145,20 @@ pub record CallsHere (before new : Seated) (c : Call) (r : Answer) : Type 0 wher
   pub answered : Answered new.context before.pass new.pass (inside new.numbers c) inner
   pub answer : r ≡ outside_reply new.numbers inner
 
+-- A call that makes an object, for which there is no place where the member sits: it is refused, and nothing changes but the reason
+pub record HeldBack (before new : Seated) (c : Call) (r : Answer) : Type 0 where
+  pub stays : Stays before new
+  pub answer : r ≡ Err OrderFull
+  pub makes : class_of c ≡ Makes
+  pub none : HasPlace before.chain (room_of before.pass.order) (known before.pass) → ⊥
+
+-- A call where the member sits: it was made there, with place for what it makes, or held back
+abbrev pub CallsThere : Seated → Seated → Call → Answer → Type 0
+CallsThere before new c r = (CallsHere before new c r × (class_of c ≡ Makes → HasPlace before.chain (room_of before.pass.order) (known before.pass))) ⊎ HeldBack before new c r
+
 -- One call of a member: it came to where it sits with no call of its own entered, and made the call there. So the call is entered there or
 -- nowhere
 pub record Calls (old new : Seated) (c : Call) (r : Answer) : Type 0 where
   pub before : Seated
   pub came : Comes old before
-  pub here : CallsHere before new c r
+  pub there : CallsThere before new c r

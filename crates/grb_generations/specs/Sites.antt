@@ -1,7 +1,7 @@
 -- inside: no public contract names it. What holds of the values in the slots of a chain, by the site for which the slots were made.
 use Rattle.std.specs.Prelude.{◌≡◌, ◌+◌, ℕ, Some, slice_get}
 use Rattle.grb_chronicle.specs.Pages.{Book}
-use Rattle.grb_context.specs.Known.{IsPassOf, Shared, known}
+use Rattle.grb_context.specs.Known.{IsPassOf, Knowing, Shared, known}
 use Rattle.grb_numbers.specs.Numbers.{NumbersSeen}
 use Rattle.grb_generations.specs.Chain.{Chain}
 use Rattle.grb_generations.specs.Keeping.{IsAtEnd}
@@ -36,14 +36,20 @@ pub record IsEndOf (site : Site) (e : Ended) : Type 0 where
   pub at : slice_get e.page.told (site.generation + 1) ≡ Some next
   pub all : known next.last ≡ known e.pass
 
--- a pass that goes on where the generation before the site's ends
-abbrev pub IsSeatAt : Site → Seat → Type 0
-IsSeatAt site seat = GoesOn site.room site.mark.context site.mark.numbers seat.pass
+-- a pass of this number that goes on with what is told of the site's generation
+pub record IsPassAt (site : Site) (number : ℕ) (p : Knowing) : Type 0 where
+  pub goes_on : GoesOn site.room site.members site.mark p
+  pub number_is : p.view.number ≡ number
+
+-- such a pass that no one has yet
+abbrev pub IsSeatAt : Site → ℕ → Seat → Type 0
+IsSeatAt site number seat = IsPassAt site number seat.pass
 
 -- a generation of the site's chain
 abbrev pub IsShownIn : Site → Showing → Type 0
 IsShownIn site shown = chain_of shown.next.site ≡ chain_of site
 
--- a seat that a member of the site's chain left
-abbrev pub IsLeftIn : Site → Seated → Type 0
-IsLeftIn site left = left.chain ≡ chain_of site
+-- a seat that a member of this number of the site's chain left
+pub record IsLeftIn (site : Site) (number : ℕ) (left : Seated) : Type 0 where
+  pub chain_is : left.chain ≡ chain_of site
+  pub number_is : left.pass.view.number ≡ number

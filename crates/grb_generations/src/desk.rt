@@ -1,16 +1,15 @@
 //! The desks of a chain's numbers: whether a member has each, and the seat that the last one left.
-ghost use Rattle.std.specs.Prelude.{◌≡◌, Some, All, IfOk, IfSome};
-ghost use Rattle.grb_generations.specs.Sites.{IsLeftIn, chain_of};
+ghost use Rattle.std.specs.Prelude.{◌≡◌, Some, IfOk, IfSome};
+ghost use Rattle.grb_generations.specs.Sites.{chain_of};
 
 use crate::ended::Ended;
 use crate::latest::MOST_LOOKS;
 use crate::site::Site;
 use crate::told::Told;
-use counted_slot::Fits;
 use grb_chronicle::Page;
 use grb_context::{Context, Pass};
 use grb_numbers::Numbers;
-use grb_slots::Slots;
+use grb_slots::{FitsAt, Slots};
 use std::alloc::{AllocError, Global};
 use std::marker::Model;
 use std::sync::Arc;
@@ -24,7 +23,7 @@ pub(crate) struct Left {
     pub(crate) page: Page<Told>,
     pub(crate) context: Arc<Context>,
     pub(crate) numbers: Arc<Numbers>,
-    pub(crate) ending: Arc<Slots<Ended>>,
+    pub(crate) ending: Arc<Slots<Option<Ended>>>,
     pub(crate) pass: Pass,
     pub(crate) generation: u64,
 }
@@ -42,7 +41,7 @@ impl Model for Left {
     ghost invariant = { λ l. IsMember (record { chain = record { room = l.room; members = l.members; book = l.page.chain }; page = l.page; context = l.context.value; numbers = l.numbers.value; pass = l.pass; generation = l.generation; reason = None }) × IsSiteIn l.ending.value.tag l.page.chain l.context.value l.generation };
 }
 
-impl Fits for Left {
+impl FitsAt for Left {
     type Tag = Site;
 
     ghost use Rattle.grb_generations.specs.Sites.{IsLeftIn};
@@ -55,7 +54,7 @@ impl Fits for Left {
 pub(crate) struct Desks {
     // Whether a member has the number.
     taken: Vec<AtomicBool>,
-    left: Slots<Left>,
+    left: Slots<Option<Left>>,
 }
 
 impl Model for Desks {
@@ -65,17 +64,6 @@ impl Model for Desks {
     ghost Value = { Chain };
 
     ghost view = { λ d. chain_of d.left.tag };
-}
-
-/// An empty slot for each number of the site's chain. `AllocError` where memory is refused.
-fn none_left(alloc: Global, site: &Site) -> Result<Vec<Option<Left>>, AllocError>
-    ensures { IfOk result (λ none. All (λ x. IfSome x (IsLeftIn site.now)) none.items) }
-{
-    let mut none = Vec::with_capacity(alloc, site.members as usize)?;
-    'members: for _ in 0..site.members {
-        none.push(None)?;
-    }
-    Ok(none)
 }
 
 impl Desks {
@@ -89,7 +77,7 @@ impl Desks {
         }
         Ok(Desks {
             taken,
-            left: Slots::open(alloc, none_left(alloc, site)?, site)?,
+            left: Slots::empty(alloc, site.members as usize, site)?,
         })
     }
 
@@ -122,7 +110,8 @@ impl Desks {
 
     /// The seat that was left at this number, if there is one.
     pub(crate) fn left(&self, number: u32) -> Option<Left>
-        ensures { IfSome result (λ left. left.chain ≡ self.now) }
+        ensures chain { IfSome result (λ left. left.chain ≡ self.now) }
+        ensures number { IfSome result (λ left. left.pass.view.number ≡ number) }
     {
         let (left, claim) = self.left.claim_within(MOST_LOOKS, number as usize)?;
         self.left.give(claim, None);

@@ -4,11 +4,10 @@ ghost use Rattle.std.specs.Prelude.{◌≡◌, IfSome};
 use crate::ended::Ended;
 use crate::site::Site;
 use crate::told::Told;
-use counted_slot::Fits;
 use grb_chronicle::Page;
 use grb_context::{Context, Pass};
 use grb_numbers::Numbers;
-use grb_slots::Slots;
+use grb_slots::{FitsAt, Slots};
 use std::marker::Model;
 use std::sync::Arc;
 
@@ -18,7 +17,7 @@ pub(crate) struct Seat {
     pub(crate) pass: Pass,
 }
 
-impl Fits for Seat {
+impl FitsAt for Seat {
     type Tag = Site;
 
     ghost use Rattle.grb_generations.specs.Sites.{IsSeatAt};
@@ -34,8 +33,8 @@ pub(crate) struct Next {
     pub(crate) generation: u64,
     pub(crate) context: Arc<Context>,
     pub(crate) numbers: Arc<Numbers>,
-    pub(crate) ending: Arc<Slots<Ended>>,
-    pub(crate) seats: Arc<Slots<Seat>>,
+    pub(crate) ending: Arc<Slots<Option<Ended>>>,
+    pub(crate) seats: Arc<Slots<Option<Seat>>>,
 }
 
 impl Model for Next {
@@ -74,6 +73,7 @@ pub(crate) struct Shown {
 }
 
 impl Model for Shown {
+    ghost use Rattle.grb_chronicle.specs.Linked.{IsLast};
     ghost use Rattle.grb_generations.specs.Placed.{IsPlaced};
     ghost use Rattle.grb_generations.specs.Seated.{Showing};
 
@@ -81,7 +81,7 @@ impl Model for Shown {
 
     ghost view = { λ s. record { next = s.next; page = s.page } };
 
-    ghost invariant = { λ s. IsPlaced s.next.site.page.chain s.next.context s.next.numbers s.next.generation s.page };
+    ghost invariant = { λ s. IsPlaced s.next.site.page.chain s.next.context s.next.numbers s.next.generation s.page × IsLast s.page.told s.next.site.mark };
 }
 
 impl Shown {

@@ -1,11 +1,11 @@
 //! What the members of a chain of stores share.
-ghost use Rattle.std.specs.Prelude.{◌≡◌, ◌<◌, ◌≤◌, ◌*◌, length, All, IfOk, IfSome};
+ghost use Rattle.std.specs.Prelude.{◌≡◌, ◌<◌, ◌≤◌, ◌*◌, [], None, length, All, IfOk, IfSome};
 ghost use mathlib.Core.List.{IsPrefix};
 ghost use Rattle.grb_order.specs.Order.{room_of};
 ghost use Rattle.grb_order.specs.declared.limits.TheConstants.{MOST_PASSES, MOST_ROOM, MOST_SEATS};
-ghost use Rattle.grb_context.specs.Known.{AreNew, IsPassOf};
+ghost use Rattle.grb_context.specs.Known.{AreNew, IsPassOf, known};
 ghost use Rattle.grb_generations.specs.Chain.{IsChain};
-ghost use Rattle.grb_generations.specs.Placed.{IsPlaced};
+ghost use Rattle.grb_generations.specs.Placed.{IsFirstOf, IsPlaced};
 ghost use Rattle.grb_generations.specs.Reasons.{TakesSeat};
 ghost use Rattle.grb_generations.specs.Seated.{AreNewMembers, GoesOn, ShareTheFirst};
 ghost use Rattle.grb_generations.specs.Sites.{IsSiteIn, chain_of};
@@ -32,7 +32,8 @@ use std::sync::atomic::{AtomicU64, Ordering};
 /// has made no object more and not shown it, before it makes one itself: some ten milliseconds (own).
 pub const MOST_WAITS: u32 = 1_048_576;
 
-/// How often it looks at most, whatever the other member makes (own).
+/// How often it looks at most, whatever the other member makes: no oftener than `MOST_WAITS` for each object that there is, and twice more
+/// (own).
 pub const MOST_WAITS_IN_ALL: u64 = 0x1_0000_0000;
 
 /// A chain of stores: the latest of them, and the sizes that all have. Threads share it by the members that they have.
@@ -68,7 +69,7 @@ fn members_of(
     page: &Page<Told>,
     context: &Arc<Context>,
     numbers: &Arc<Numbers>,
-    ending: &Arc<Slots<Ended>>,
+    ending: &Arc<Slots<Option<Ended>>>,
     passes: Vec<Pass>,
 ) -> Result<Vec<Member>, AllocError>
     requires numbers { numbers.now.value ≡ first_numbers }
@@ -76,6 +77,8 @@ fn members_of(
     requires site { IsSiteIn ending.now.value.tag generations.now.value.book context.now.value 0 }
     requires room { generations.now.value.room ≡ room_of context.now.value.order }
     requires most { generations.now.value.room ≤ MOST_ROOM }
+    requires first { IsFirstOf page.now.told }
+    requires all { generations.now.value.members ≡ length passes.items }
     requires ours { All (IsPassOf context.now.value) passes.items }
     requires new { AreNew context.now.value.order (length passes.items) passes.items (length passes.items) }
     ensures count { IfOk result (λ members. length members.items ≡ length passes.items) }
@@ -83,23 +86,68 @@ fn members_of(
 {
     let mut members = Vec::with_capacity(alloc, passes.len())?;
     'passes: for pass in passes {
-        let generations = Arc::try_clone(generations)?;
-        let context = Arc::try_clone(context)?;
-        let numbers = Arc::try_clone(numbers)?;
-        let ending = Arc::try_clone(ending)?;
-        let page = page.again();
-        members.push(Member::new(generations, page, context, numbers, ending, pass))?;
+        let member = member_of(generations, page, context, numbers, ending, pass)?;
+        members.push(member)?;
     }
     Ok(members)
 }
 
+/// A member of the first generation with this pass. `AllocError` where 2^63 - 1 hold a part of that.
+fn member_of(
+    generations: &Arc<Generations>,
+    page: &Page<Told>,
+    context: &Arc<Context>,
+    numbers: &Arc<Numbers>,
+    ending: &Arc<Slots<Option<Ended>>>,
+    pass: Pass,
+) -> Result<Member, AllocError>
+    requires numbers { numbers.now.value ≡ first_numbers }
+    requires placed { IsPlaced generations.now.value.book context.now.value numbers.now.value 0 page.now }
+    requires site { IsSiteIn ending.now.value.tag generations.now.value.book context.now.value 0 }
+    requires room { generations.now.value.room ≡ room_of context.now.value.order }
+    requires most { generations.now.value.room ≤ MOST_ROOM }
+    requires first { IsFirstOf page.now.told }
+    requires pass { IsPassOf context.now.value pass }
+    requires passes { pass.view.passes ≡ generations.now.value.members }
+    ensures { IfOk result (λ m. m ≡ record { chain = generations.now.value; page = page.now; context = context.now.value; numbers = first_numbers; pass = pass; generation = 0; reason = None }) }
+{
+    let (generations, context, numbers, ending) = held(generations, context, numbers, ending)?;
+    let page = page.again();
+    Ok(Member::new(generations, page, context, numbers, ending, pass))
+}
+
+/// Another hold of each of these. `AllocError` where 2^63 - 1 hold one of them.
+fn held(
+    generations: &Arc<Generations>,
+    context: &Arc<Context>,
+    numbers: &Arc<Numbers>,
+    ending: &Arc<Slots<Option<Ended>>>,
+) -> Result<
+    (
+        Arc<Generations>,
+        Arc<Context>,
+        Arc<Numbers>,
+        Arc<Slots<Option<Ended>>>,
+    ),
+    AllocError,
+>
+    ensures generations { IfOk result (λ h. h.0.value ≡ generations.now.value) }
+    ensures context { IfOk result (λ h. h.1.value ≡ context.now.value) }
+    ensures numbers { IfOk result (λ h. h.2.value ≡ numbers.now.value) }
+    ensures ending { IfOk result (λ h. h.3.value ≡ ending.now.value) }
+{
+    let generations = Arc::try_clone(generations)?;
+    let context = Arc::try_clone(context)?;
+    let numbers = Arc::try_clone(numbers)?;
+    let ending = Arc::try_clone(ending)?;
+    Ok((generations, context, numbers, ending))
+}
+
 /// A slot for the pass that will know the end of the site's generation. `AllocError` where memory is refused.
-pub(crate) fn ending_at(alloc: Global, site: &Site) -> Result<Arc<Slots<Ended>>, AllocError>
+pub(crate) fn ending_at(alloc: Global, site: &Site) -> Result<Arc<Slots<Option<Ended>>>, AllocError>
     ensures { IfOk result (λ ending. ending.value.tag ≡ site.now) }
 {
-    let mut none = Vec::with_capacity(alloc, 1)?;
-    none.push(None)?;
-    let ending = Arc::new(alloc, Slots::open(alloc, none, site)?)?;
+    let ending = Arc::new(alloc, Slots::empty(alloc, 1, site)?)?;
     Ok(ending)
 }
 
@@ -111,9 +159,11 @@ fn first_site(
     numbers: &Arc<Numbers>,
     last: &Pass,
 ) -> (Site, Chronicle<Told>)
+    requires { known last.now ≡ [] }
     ensures sizes { (result.0.room ≡ room) × (result.0.members ≡ members) × (result.0.generation ≡ 0) }
     ensures context { result.0.mark.context ≡ context.now.value }
     ensures placed { IsPlaced result.1 context.now.value numbers.now.value 0 result.0.page }
+    ensures first { IsFirstOf result.0.page.told }
 {
     let mark = Mark::of::<Founding<'_>, Founded>(&Founding {
         context,
@@ -130,6 +180,16 @@ fn first_site(
         mark,
     };
     (site, chronicle)
+}
+
+/// How often a member looks that waits for another which makes so many objects at most.
+fn most_looks(objects: u64) -> u64
+    ensures { result ≤ MOST_WAITS_IN_ALL }
+{
+    objects
+        .saturating_add(2)
+        .saturating_mul(u64::from(MOST_WAITS))
+        .min(MOST_WAITS_IN_ALL)
 }
 
 impl Generations {
@@ -213,31 +273,20 @@ impl Generations {
     {
         if let Some(left) = self.desks.left(number) {
             if left.generation == self.latest.number() {
-                return self.of_number(left, number);
+                return Some(left);
             }
         }
         let shown = self.latest.get()?;
-        let seat = shown.next.seats.take(number as usize)?;
-        self.of_number(self.left_of(shown, seat), number)
-    }
-
-    /// The seat, if it is one of this number.
-    fn of_number(&self, left: Left, number: u32) -> Option<Left>
-        requires { left.chain ≡ self.now }
-        ensures chain { IfSome result (λ left. left.chain ≡ self.now) }
-        ensures number { IfSome result (λ left. left.pass.view.number ≡ number) }
-    {
-        if left.pass.number() != number {
-            return None;
-        }
-        Some(left)
+        let (seat, _given) = shown.next.seats.take(number as usize)?;
+        Some(self.left_of(shown, seat))
     }
 
     /// A seat of a generation that no one took, as one that was left.
     fn left_of(&self, shown: Shown, seat: Seat) -> Left
         requires chain { chain_of shown.next.site ≡ self.now }
-        requires goes_on { GoesOn self.now.room shown.next.context shown.next.numbers seat.pass }
-        ensures { result.chain ≡ self.now }
+        requires goes_on { GoesOn self.now.room self.now.members shown.next.site.mark seat.pass }
+        ensures chain { result.chain ≡ self.now }
+        ensures pass { result.pass ≡ seat.pass }
     {
         let Shown { next, page } = shown;
         let Next {
@@ -282,23 +331,27 @@ impl Generations {
         self.latest.number()
     }
 
-    /// The latest generation and the pass of this number in it, where no one has taken that, and this page of the chain begins that of the
-    /// generation. None too where others had the place of the latest at each of so many looks. Takes no memory.
-    pub(crate) fn seat_after(&self, page: &Page<Told>, number: u32) -> Option<(Shown, Pass)>
+    /// The latest generation and the pass of this number in it, where no one has taken that, and both of these pages of the chain begin that
+    /// of the generation. None too where others had the place of the latest at each of so many looks. Takes no memory.
+    pub(crate) fn seat_after(
+        &self,
+        own: &Page<Told>,
+        page: &Page<Told>,
+        number: u32,
+    ) -> Option<(Shown, Pass)>
+        requires own { own.now.chain ≡ self.now.book }
         requires chain { page.now.chain ≡ self.now.book }
         ensures chain { IfSome result (λ taken. chain_of taken.0.next.site ≡ self.now) }
+        ensures goes { IfSome result (λ taken. IsPrefix own.now.told taken.0.page.told) }
         ensures begins { IfSome result (λ taken. IsPrefix page.now.told taken.0.page.told) }
         ensures number { IfSome result (λ taken. taken.1.view.number ≡ number) }
-        ensures goes_on { IfSome result (λ taken. GoesOn self.now.room taken.0.next.context taken.0.next.numbers taken.1) }
+        ensures goes_on { IfSome result (λ taken. GoesOn self.now.room self.now.members taken.0.next.site.mark taken.1) }
     {
         let shown = self.latest.get()?;
-        if !page.begins(&shown.page) {
+        if !own.begins(&shown.page) || !page.begins(&shown.page) {
             return None;
         }
-        let Seat { pass } = shown.next.seats.take(number as usize)?;
-        if pass.number() != number {
-            return None;
-        }
+        let (Seat { pass }, _given) = shown.next.seats.take(number as usize)?;
         Some((shown, pass))
     }
 
@@ -330,12 +383,13 @@ impl Generations {
         let _ = self.progress.fetch_add(1, Ordering::SeqCst);
     }
 
-    /// Whether a member is to make the generation of this number: it is the first to set out for that, or who did has made no object more
-    /// and not shown it in so many looks. Not where one stands. Takes no memory.
-    pub(crate) fn is_to_make(&self, number: u64) -> bool {
+    /// Whether a member is to make the generation of this number, which takes over objects of at most so many: it is the first to set out for
+    /// that, or who did has made no object more and not shown it in so many looks. Not where one stands. It looks as often as that may take for
+    /// each object. Takes no memory.
+    pub(crate) fn is_to_make(&self, number: u64, objects: u64) -> bool {
         let mut seen = self.progress.load(Ordering::SeqCst);
         let mut idle = 0u32;
-        'waits: for _ in 0..MOST_WAITS_IN_ALL {
+        'waits: for _ in 0..most_looks(objects) {
             if self.latest.number() >= number {
                 return false;
             }

@@ -7,9 +7,8 @@ ghost use Rattle.grb_generations.specs.Sites.{chain_of};
 use crate::generation::{Next, Shown};
 use crate::site::Site;
 use crate::told::Told;
-use counted_slot::Fits;
 use grb_chronicle::{Chronicle, Mark, Page};
-use grb_slots::Slots;
+use grb_slots::{FitsAt, Slots};
 use std::alloc::{AllocError, Global};
 use std::marker::Model;
 use std::sync::atomic::{AtomicU64, Ordering};
@@ -18,19 +17,19 @@ use std::sync::atomic::{AtomicU64, Ordering};
 /// (own). No thread has one for longer than it takes to copy what is in it, or for two passes to meet.
 pub const MOST_LOOKS: u32 = 1_048_576;
 
-impl Fits for Shown {
+impl FitsAt for Shown {
     type Tag = Site;
 
     ghost use Rattle.grb_generations.specs.Sites.{IsShownIn};
 
-    ghost fits = { IsShownIn };
+    ghost fits = { λ site _ shown. IsShownIn site shown };
 }
 
 /// The latest generation, which threads share, and the chronicle of the chain. The first generation is not in the slot: its members have
 /// their passes from the start. Contracts see the chain.
 #[derive(Drop)]
 pub(crate) struct Latest {
-    place: Slots<Shown>,
+    place: Slots<Option<Shown>>,
     chronicle: Chronicle<Told>,
     // The number of the generation that is in the slot.
     number: AtomicU64,
@@ -58,10 +57,8 @@ impl Latest {
         requires chronicle { site.now.page.chain ≡ chronicle }
         ensures { IfOk result (λ latest. latest ≡ chain_of site.now) }
     {
-        let mut none = Vec::with_capacity(alloc, 1)?;
-        none.push(None)?;
         Ok(Latest {
-            place: Slots::open(alloc, none, site)?,
+            place: Slots::empty(alloc, 1, site)?,
             chronicle,
             number: AtomicU64::new(0),
         })
@@ -92,7 +89,7 @@ impl Latest {
     pub(crate) fn turn(&self, page: &mut Page<Told>, mark: &Mark<Told>, next: Next) -> bool
         requires chain { page.old.chain ≡ self.now.book }
         requires site { chain_of next.site ≡ self.now }
-        requires told { (mark.now.context ≡ next.context) × (mark.now.numbers ≡ next.numbers) }
+        requires told { next.site.mark ≡ mark.now }
         requires count { length page.old.told ≡ next.generation }
         requires follows { MayFollow Follows page.old.told mark.now }
         ensures chain { page.new.chain ≡ page.old.chain }

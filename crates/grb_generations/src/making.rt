@@ -12,7 +12,8 @@ ghost use Rattle.grb_generations.specs.Follows.{Follows};
 ghost use Rattle.grb_generations.specs.Keeping.{Suffice, kept_numbers, kept_store};
 ghost use Rattle.grb_generations.specs.Reasons.{IsNoGeneration};
 ghost use Rattle.grb_generations.specs.Seated.{GoesOn, IsAtEnd, Moves, Stays};
-ghost use Rattle.grb_generations.specs.Sites.{chain_of};
+ghost use Rattle.grb_generations.specs.Sites.{IsPassAt, IsSeatAt, chain_of};
+ghost use Rattle.grb_slots.specs.Row.{AllFit};
 
 use crate::ended::Ended;
 use crate::generation::{Next, Seat};
@@ -26,11 +27,64 @@ use grb_call::{MatrixId, Object, VectorId};
 use grb_chronicle::Mark;
 use grb_context::{Context, LiveObjects, NoSuccessor, Pass};
 use grb_numbers::Numbers;
-use grb_numbers::laws::next_numbers_show_the_same;
 use grb_slots::Slots;
-use std::alloc::AllocError;
+use std::alloc::{AllocError, Global};
 use std::mem::replace;
 use std::sync::Arc;
+
+/// What the members of the site's generation are to share, with these seats. `AllocError` where memory is refused.
+fn next_at(
+    alloc: Global,
+    site: &Site,
+    context: Arc<Context>,
+    numbers: Arc<Numbers>,
+    seats: Vec<Option<Seat>>,
+) -> Result<Next, AllocError>
+    requires context { site.now.mark.context ≡ context.value }
+    requires numbers { site.now.mark.numbers ≡ numbers.value }
+    requires seats { AllFit (λ k x. IfSome x (IsSeatAt site.now k)) seats.items }
+    ensures { IfOk result (λ next. next ≡ record { room = site.now.room; context = context.value; numbers = numbers.value; generation = site.now.generation; site = site.now }) }
+{
+    let ending = ending_at(alloc, site)?;
+    let seats = Arc::new(alloc, Slots::open(alloc, seats, site)?)?;
+    Ok(Next {
+        room: site.room,
+        generation: site.generation,
+        context,
+        numbers,
+        ending,
+        seats,
+    })
+}
+
+/// The passes of the site's generation as its seats, but for that of this number, which comes apart; none where there is none of that number.
+/// `AllocError` where memory is refused.
+fn seats_at(
+    alloc: Global,
+    site: &Site,
+    number: u32,
+    passes: Vec<Pass>,
+) -> Result<Option<(Vec<Option<Seat>>, Pass)>, AllocError>
+    requires passes { AllFit (IsPassAt site.now) passes.items }
+    ensures seats { IfOk result (λ made. IfSome made (λ m. AllFit (λ k x. IfSome x (IsSeatAt site.now k)) m.0.items)) }
+    ensures own { IfOk result (λ made. IfSome made (λ m. GoesOn site.now.room site.now.members site.now.mark m.1)) }
+    ensures number { IfOk result (λ made. IfSome made (λ m. m.1.view.number ≡ number)) }
+{
+    let mut own = None;
+    let mut seats = Vec::with_capacity(alloc, site.members as usize)?;
+    'passes: for pass in passes {
+        if pass.number() == number {
+            own = Some(pass);
+            seats.push(None)?;
+        } else {
+            seats.push(Some(Seat { pass }))?;
+        }
+    }
+    match own {
+        Some(pass) => Ok(Some((seats, pass))),
+        None => Ok(None),
+    }
+}
 
 /// How many calls the history of the first of these passes takes.
 fn room_of_first(passes: &Vec<Pass>) -> u64
@@ -88,12 +142,10 @@ impl Member {
     fn make_matrix(&mut self, a: MatrixId)
         ensures { Stays self.old self.new }
     {
-        let generations: &Generations = &self.generations;
-        generations.progresses();
+        self.generations.progresses();
         if self.pass.matrix(a).is_none() {
-            let _branch = self
-                .context
-                .branch(generations.alloc, &mut self.pass, &[a], &[], 1, 1);
+            let alloc = self.generations.alloc;
+            let _branch = self.branch_inside(alloc, &[a], &[], 1, 1);
         }
     }
 
@@ -101,12 +153,10 @@ impl Member {
     fn make_vector(&mut self, v: VectorId)
         ensures { Stays self.old self.new }
     {
-        let generations: &Generations = &self.generations;
-        generations.progresses();
+        self.generations.progresses();
         if self.pass.vector(v).is_none() {
-            let _branch = self
-                .context
-                .branch(generations.alloc, &mut self.pass, &[], &[v], 1, 1);
+            let alloc = self.generations.alloc;
+            let _branch = self.branch_inside(alloc, &[], &[v], 1, 1);
         }
     }
 
@@ -141,16 +191,9 @@ impl Member {
         if !are_few(live) {
             return Err(NoGeneration::OutOfMemory);
         }
-        let generations: &Generations = &self.generations;
-        let next = self.context.branch(
-            generations.alloc,
-            &mut self.pass,
-            &live.matrices,
-            &live.vectors,
-            generations.room,
-            generations.members,
-        );
-        match next {
+        let alloc = self.generations.alloc;
+        let (room, members) = (self.generations.room, self.generations.members);
+        match self.branch_inside(alloc, &live.matrices, &live.vectors, room, members) {
             Ok(next) => Ok(next),
             Err(why) => Err(self.no_generation(why)),
         }
@@ -174,7 +217,7 @@ impl Member {
     }
 
     /// The object by the number that users have.
-    fn outer_object(&self, object: Object) -> Object
+    pub(crate) fn outer_object(&self, object: Object) -> Object
         ensures { result ≡ renamed_object (outwards self.now.numbers) object }
     {
         match object {
@@ -218,19 +261,38 @@ impl Member {
         ensures err { OnErr result (self.new ≡ self.old) }
         ensures refused { IfErr result (IsNoGeneration self.old.chain self.old.numbers self.old.pass) }
     {
+        let numbers = self.numbers_for(live, &context, &passes)?;
+        match self.show_with(number, numbers, context, passes) {
+            Ok(moved) => Ok(moved),
+            Err(AllocError) => Err(NoGeneration::OutOfMemory),
+        }
+    }
+
+    /// The numbers by which the next generation is seen, which has this store and these passes, and which suffice for its history.
+    fn numbers_for(
+        &self,
+        live: &LiveObjects,
+        context: &Context,
+        passes: &Vec<Pass>,
+    ) -> Result<Numbers, NoGeneration>
+        requires end { IsAtEnd self.now.pass }
+        requires live { AreLiveObjects (store_of (known self.now.pass)) live.now }
+        requires room { room_of context.now.order ≡ room_beside (kept_store (store_of (known self.now.pass))) self.now.chain.room }
+        requires begun { AreBegun context.now (kept_store (store_of (known self.now.pass))) self.now.chain.members passes.now.items }
+        ensures numbers { IfOk result (λ n. n ≡ kept_numbers self.now.numbers (store_of (known self.now.pass))) }
+        ensures suffice { IfOk result (λ n. Suffice n (room_of context.now.order)) }
+        ensures refused { IfErr result (IsNoGeneration self.now.chain self.now.numbers self.now.pass) }
+    {
         let Ok(numbers) = self.next_numbers(live) else {
             return Err(NoGeneration::OutOfMemory);
         };
         if passes.is_empty() {
             return Err(NoGeneration::Busy);
         }
-        if !suffice(&numbers, room_of_first(&passes)) {
+        if !suffice(&numbers, room_of_first(passes)) {
             return Err(NoGeneration::NumbersSpent);
         }
-        match self.show_with(number, numbers, context, passes) {
-            Ok(moved) => Ok(moved),
-            Err(AllocError) => Err(NoGeneration::OutOfMemory),
-        }
+        Ok(numbers)
     }
 
     /// The same, with these numbers. `AllocError` where memory is refused.
@@ -251,27 +313,56 @@ impl Member {
         ensures stayed { result ≡ Ok false → self.new ≡ self.old }
         ensures err { OnErr result (self.new ≡ self.old) }
     {
-        self.numbers.are_numbers();
-        next_numbers_show_the_same();
         let alloc = self.generations.alloc;
         let context = Arc::new(alloc, context)?;
         let numbers = Arc::new(alloc, numbers)?;
+        self.show_shared(number, numbers, context, passes)
+    }
+
+    /// The same, of a store and numbers that its members share.
+    fn show_shared(
+        &mut self,
+        number: u64,
+        numbers: Arc<Numbers>,
+        context: Arc<Context>,
+        passes: Vec<Pass>,
+    ) -> Result<bool, AllocError>
+        requires end { IsAtEnd self.old.pass }
+        requires number { number ≡ self.old.generation + 1 }
+        requires numbers { numbers.value ≡ kept_numbers self.old.numbers (store_of (known self.old.pass)) }
+        requires suffice { Suffice numbers.value (room_of context.value.order) }
+        requires room { room_of context.value.order ≡ room_beside (kept_store (store_of (known self.old.pass))) self.old.chain.room }
+        requires begun { AreBegun context.value (kept_store (store_of (known self.old.pass))) self.old.chain.members passes.items }
+        ensures moved { result ≡ Ok true → Moves self.old self.new }
+        ensures stayed { result ≡ Ok false → self.new ≡ self.old }
+        ensures err { OnErr result (self.new ≡ self.old) }
+    {
         let site = self.next_site(number, &context, &numbers);
-        let Some((seats, own)) = self.seats_of(&context, &numbers, passes)? else {
+        let alloc = self.generations.alloc;
+        let Some((seats, own)) = seats_at(alloc, &site, self.pass.number(), passes)? else {
             return Ok(false);
         };
-        let next = Next {
-            room: self.generations.room,
-            generation: number,
-            context,
-            numbers,
-            ending: ending_at(alloc, &site)?,
-            seats: Arc::new(alloc, Slots::open(alloc, seats, &site)?)?,
-        };
+        let next = next_at(alloc, &site, context, numbers, seats)?;
+        Ok(self.turn_to(&site.mark, next, own))
+    }
+
+    /// Shows the next generation and moves there, as `turn` does, unless 2^63 - 1 hold a part of it; whether it moved.
+    fn turn_to(&mut self, mark: &Mark<Told>, next: Next, own: Pass) -> bool
+        requires end { IsAtEnd self.old.pass }
+        requires follows { MayFollow Follows self.old.page.told mark.now }
+        requires told { mark.now ≡ record { context = next.context; numbers = next.numbers; last = self.old.pass } }
+        requires chain { chain_of next.site ≡ self.old.chain }
+        requires site { next.site.mark ≡ mark.now }
+        requires number { next.generation ≡ self.old.generation + 1 }
+        requires own { own.view.number ≡ self.old.pass.view.number }
+        requires goes_on { GoesOn self.old.chain.room self.old.chain.members mark.now own }
+        ensures moved { result ≡ true → Moves self.old self.new }
+        ensures stayed { result ≡ false → self.new ≡ self.old }
+    {
         let Some(copy) = next.try_clone() else {
-            return Ok(false);
+            return false;
         };
-        Ok(self.turn(&site.mark, next, copy, own))
+        self.turn(mark, next, copy, own)
     }
 
     /// The site of the next generation, with this store and these numbers.
@@ -294,36 +385,6 @@ impl Member {
         }
     }
 
-    /// The passes of the next generation as its seats, but for that of the member's own number, which comes apart; none where there is none of
-    /// that number. `AllocError` where memory is refused.
-    fn seats_of(
-        &self,
-        context: &Arc<Context>,
-        numbers: &Arc<Numbers>,
-        passes: Vec<Pass>,
-    ) -> Result<Option<(Vec<Option<Seat>>, Pass)>, AllocError>
-        requires passes { All (GoesOn self.now.chain.room context.now.value numbers.now.value) passes.items }
-        ensures seats { IfOk result (λ made. IfSome made (λ m. All (λ x. IfSome x (λ seat. GoesOn self.now.chain.room context.now.value numbers.now.value seat.pass)) m.0.items)) }
-        ensures own { IfOk result (λ made. IfSome made (λ m. GoesOn self.now.chain.room context.now.value numbers.now.value m.1)) }
-        ensures number { IfOk result (λ made. IfSome made (λ m. m.1.view.number ≡ self.now.pass.view.number)) }
-    {
-        let number = self.pass.number();
-        let mut own = None;
-        let mut seats = Vec::with_capacity(self.generations.alloc, passes.len())?;
-        'passes: for pass in passes {
-            if pass.number() == number {
-                own = Some(pass);
-                seats.push(None)?;
-            } else {
-                seats.push(Some(Seat { pass }))?;
-            }
-        }
-        match own {
-            Some(pass) => Ok(Some((seats, pass))),
-            None => Ok(None),
-        }
-    }
-
     /// Shows the next generation with this mark in the chronicle and moves there, with this pass of it, unless the chronicle tells of another
     /// next one, or others have its place or that of the own end at each of so many looks; whether it moved. The member's pass is left at
     /// the end of its generation, for the members that come after. Takes no memory.
@@ -333,9 +394,10 @@ impl Member {
         requires told { mark.now ≡ record { context = next.context; numbers = next.numbers; last = self.old.pass } }
         requires copy { copy ≡ next }
         requires chain { chain_of next.site ≡ self.old.chain }
+        requires site { next.site.mark ≡ mark.now }
         requires number { next.generation ≡ self.old.generation + 1 }
         requires own { own.view.number ≡ self.old.pass.view.number }
-        requires goes_on { GoesOn self.old.chain.room next.context next.numbers own }
+        requires goes_on { GoesOn self.old.chain.room self.old.chain.members mark.now own }
         ensures moved { result ≡ true → Moves self.old self.new }
         ensures stayed { result ≡ false → self.new ≡ self.old }
     {

@@ -7,12 +7,15 @@ ghost use Rattle.grb_context.specs.Known.{IsPassOf, known};
 ghost use Rattle.grb_call.specs.Kinds.{enters};
 ghost use Rattle.grb_numbers.specs.Inside.{inside};
 ghost use Rattle.grb_numbers.specs.Numbers.{first_numbers};
-ghost use Rattle.grb_context.specs.Explains.{is_entered};
+ghost use Rattle.grb_context.specs.Explains.{entered_calls, is_entered};
 ghost use Rattle.grb_context.specs.Answered.{Answered};
 ghost use Rattle.grb_generations.specs.Attempts.{Attempts};
-ghost use Rattle.grb_generations.specs.Reasons.{IsNoGeneration};
-ghost use Rattle.grb_generations.specs.Placed.{IsPlaced};
-ghost use Rattle.grb_generations.specs.Seated.{Brings, Calls, CallsHere, Comes, GoesOn, IsAtEnd, IsEnded, IsThere, Moves, Stays};
+ghost use Rattle.grb_generations.specs.Reserve.{HasPlace};
+ghost use Rattle.grb_generations.specs.declared.reason.NoGeneration.TheVariants as NoGeneration;
+ghost use Rattle.grb_generations.specs.Reasons.{IsMember, IsNoGeneration, TakesSeat};
+ghost use mathlib.Core.List.{IsPrefix};
+ghost use Rattle.grb_generations.specs.Placed.{IsFirstOf, IsPlaced};
+ghost use Rattle.grb_generations.specs.Seated.{Brings, Calls, CallsHere, CallsThere, Comes, GoesOn, IsAtEnd, IsEnded, IsThere, Keeps, Moves, Stays};
 ghost use Rattle.grb_generations.specs.Sites.{IsSiteIn, chain_of};
 
 use crate::desk::Left;
@@ -66,7 +69,7 @@ pub struct Member {
     pub(crate) context: Arc<Context>,
     pub(crate) numbers: Arc<Numbers>,
     // Where the pass lies that knew the end of its generation, once the next one stands.
-    pub(crate) ending: Arc<Slots<Ended>>,
+    pub(crate) ending: Arc<Slots<Option<Ended>>>,
     pub(crate) pass: Pass,
     pub(crate) generation: u64,
     // Why its last try to go on from there failed.
@@ -117,7 +120,7 @@ impl Member {
         page: Page<Told>,
         context: Arc<Context>,
         numbers: Arc<Numbers>,
-        ending: Arc<Slots<Ended>>,
+        ending: Arc<Slots<Option<Ended>>>,
         pass: Pass,
     ) -> Member
         requires placed { IsPlaced generations.value.book context.value numbers.value 0 page }
@@ -126,6 +129,8 @@ impl Member {
         requires numbers { numbers.value ≡ first_numbers }
         requires room { generations.value.room ≡ room_of context.value.order }
         requires most { generations.value.room ≤ MOST_ROOM }
+        requires first { IsFirstOf page.told }
+        requires passes { pass.view.passes ≡ generations.value.members }
         ensures { result ≡ record { chain = generations.value; page = page; context = context.value; numbers = first_numbers; pass = pass; generation = 0; reason = None } }
     {
         Member {
@@ -143,7 +148,9 @@ impl Member {
     /// A member that has the seat which another one left. None where 2^63 - 1 hold the chain.
     pub(crate) fn again(generations: &Arc<Generations>, left: Left) -> Option<Member>
         requires { left.chain ≡ generations.now.value }
-        ensures { IfSome result (λ m. m ≡ left) }
+        ensures same { IfSome result (λ m. m ≡ left) }
+        ensures member { IfSome result IsMember }
+        ensures reason { IfSome result (λ m. m.reason ≡ None) }
     {
         let Ok(generations) = Arc::try_clone(generations) else {
             return None;
@@ -234,9 +241,13 @@ impl Member {
     /// it is answered as of the end of the generation in which it sits.
     ///
     /// A change that finds its generation full has the member make the next one, or wait a bounded time for another member that makes it,
-    /// and is made there. `OrderFull` says that it was made nowhere, since the generation is full and the next one was not to be had: the
-    /// room takes no call beside those that make the store anew, memory or a record is refused, or a bound was reached. [`Member::reason`]
-    /// tells which, and a later call tries again. All other refusals are as of [`Context::call`].
+    /// and is made there. `OrderFull` says that it was made nowhere, since the generation is full and the next one was not to be had: memory
+    /// or a record is refused, or a bound was reached; or the call makes an object for which the chain has no place, so that calls which free,
+    /// clear or change one always find room. [`Member::reason`] tells which, and a later call tries again. All other refusals are as of
+    /// [`Context::call`].
+    ///
+    /// Nothing is lost on the way: what the member sees after the call is what it saw before, with calls of others made on it, and then this
+    /// one, if it was entered. So a call that was answered `Done` is in every generation to which the member comes.
     ///
     /// Objects keep the numbers that they were given, in all generations, and no number is given twice; one that was freed names no object
     /// for good. The store of a generation numbers what was there anew, so what was freed costs nothing. Of each sort some 4,294,900,000
@@ -246,8 +257,10 @@ impl Member {
     pub fn call(&mut self, call: Call) -> Result<Reply, Refusal>
         ensures later { self.old.generation ≤ self.new.generation }
         ensures calls { Calls self.old self.new call result }
+        ensures keeps { Keeps self.old self.new (entered_calls call result) }
         ensures full { result ≡ Err Refusal.OrderFull → is_some self.new.reason ≡ true }
     {
+        let _ = &self.generations;
         match self.attempts(&call) {
             Some(answer) => answer,
             None => self.call_in_place(call),
@@ -282,6 +295,7 @@ impl Member {
             return Attempt::Stayed;
         };
         self.follow();
+        self.look_for_place(call);
         let answer = self.call_in_place(copy);
         if !self.is_behind(call, &answer) {
             return Attempt::Answered(answer);
@@ -302,8 +316,30 @@ impl Member {
         answer
     }
 
-    /// The same, of a call and with an answer by the numbers that users have.
+    /// The same, of a call and with an answer by the numbers that users have; but one that makes an object for which there is no place is held
+    /// back.
     fn call_in_place(&mut self, call: Call) -> Result<Reply, Refusal>
+        ensures calls { CallsThere self.old self.new call result }
+        ensures full { result ≡ Err Refusal.OrderFull → is_some self.new.reason ≡ true }
+    {
+        if self.is_crowded_for(&call) {
+            return self.hold_back();
+        }
+        self.call_there(call)
+    }
+
+    /// Refuses a call for which there is no place.
+    fn hold_back(&mut self) -> Result<Reply, Refusal>
+        requires { HasPlace self.old.chain (room_of self.old.pass.order) (known self.old.pass) → ⊥ }
+        ensures same { self.new ≡ record self.old { reason = Some NoGeneration.Crowded } }
+        ensures full { result ≡ Err Refusal.OrderFull }
+    {
+        let _why = self.because(NoGeneration::Crowded);
+        Err(Refusal::OrderFull)
+    }
+
+    /// One call in the generation in which the member sits, by the numbers that users have.
+    fn call_there(&mut self, call: Call) -> Result<Reply, Refusal>
         ensures calls { CallsHere self.old self.new call result }
         ensures full { result ≡ Err Refusal.OrderFull → is_some self.new.reason ≡ true }
     {
@@ -313,7 +349,7 @@ impl Member {
     }
 
     /// Learns the newest words, by a call that is refused and has no status.
-    fn look(&mut self)
+    pub(crate) fn look(&mut self)
         ensures comes { Comes self.old self.new }
         ensures generation { self.new.generation ≡ self.old.generation }
     {
@@ -365,18 +401,28 @@ impl Member {
         if !self.pass.is_at_end() || !self.is_left() {
             return false;
         }
-        let Some(page) = self.ended() else {
+        let Some((shown, pass)) = self.next_seat() else {
             return false;
         };
-        let number = self.pass.number();
-        let Some((shown, pass)) = self.generations.seat_after(&page, number) else {
-            return false;
-        };
-        if !self.page.begins(&shown.page) {
-            return false;
-        }
         self.sit(shown, pass);
         true
+    }
+
+    /// The latest generation with the pass of the member's number in it, where no call of the member's generation is left out of that. None
+    /// where there is no such generation yet, no such pass, or others had the place of one of them at each of so many looks.
+    fn next_seat(&mut self) -> Option<(Shown, Pass)>
+        requires end { IsAtEnd self.old.pass }
+        ensures same { self.new ≡ self.old }
+        ensures chain { IfSome result (λ taken. chain_of taken.0.next.site ≡ self.old.chain) }
+        ensures carries { IfSome result (λ taken. Brings self.old taken.0.page) }
+        ensures number { IfSome result (λ taken. taken.1.view.number ≡ self.old.pass.view.number) }
+        ensures goes_on { IfSome result (λ taken. GoesOn self.old.chain.room self.old.chain.members taken.0.next.site.mark taken.1) }
+    {
+        let Some(page) = self.ended() else {
+            return None;
+        };
+        let number = self.pass.number();
+        self.generations.seat_after(&self.page, &page, number)
     }
 
     /// A page on which the generation after the member's own stands, which was made of just what the member's pass knows: so its meeting with
@@ -406,7 +452,7 @@ impl Member {
         requires chain { chain_of shown.next.site ≡ self.old.chain }
         requires carries { Brings self.old shown.page }
         requires number { pass.view.number ≡ self.old.pass.view.number }
-        requires goes_on { GoesOn self.old.chain.room shown.next.context shown.next.numbers pass }
+        requires goes_on { GoesOn self.old.chain.room self.old.chain.members shown.next.site.mark pass }
         ensures { Moves self.old self.new }
     {
         let Shown { next, page } = shown;
@@ -425,6 +471,18 @@ impl Member {
         self.pass = pass;
         self.generation = generation;
         self.reason = None;
+    }
+
+    /// A member of this number, as [`Generations::member`] gives one, which sits in no earlier generation than this one. Takes no memory (own).
+    pub fn seat(&self, number: u32) -> Option<Member>
+        ensures seat { IfSome result (TakesSeat self.now.chain number) }
+        ensures newest { IfSome result (λ m. IsPrefix self.now.page.told m.page.told) }
+    {
+        let member = Generations::member(&self.generations, number)?;
+        if !self.page.begins(&member.page) {
+            return None;
+        }
+        Some(member)
     }
 
     /// Goes to a later generation, where the member's own is full and it knows all of that; whether it moved. Where none stands it makes
@@ -478,8 +536,9 @@ impl Member {
         ensures reason { IfErr result (λ why. self.new.reason ≡ Some why) }
         ensures later { self.old.generation ≤ self.new.generation }
     {
+        let objects = u64::from(self.pass.matrices_given()) + u64::from(self.pass.vectors_given());
         match self.generation.checked_add(1) {
-            Some(number) if self.generations.is_to_make(number) => self.provide(number),
+            Some(number) if self.generations.is_to_make(number, objects) => self.provide(number),
             _ => Ok(false),
         }
     }

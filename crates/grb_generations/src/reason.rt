@@ -1,7 +1,7 @@
 //! Why there is no next generation.
 use grb_call::Object;
 
-/// Why a member that needs the next generation does not find or make one (own).
+/// Why a member that needs the next generation does not find or make one, or makes no object (own).
 #[derive(Clone, Copy, Debug, PartialEq, Eq)]
 pub enum NoGeneration {
     /// This object is there and cannot be made: memory is refused to its evaluation. Once that is there, or the object is freed, a later
@@ -15,6 +15,8 @@ pub enum NoGeneration {
         /// How many calls make the store anew.
         needed: u64,
     },
+    /// One object more could leave no room for the next generation. Once objects are freed, a later call makes one again.
+    Crowded,
     /// 2^32 - 2 numbers of a sort were given.
     NumbersSpent,
     /// Memory is refused.

@@ -1,14 +1,25 @@
 //! What a member's pass evaluates, lets go and learns from another member.
-ghost use Rattle.std.specs.Prelude.{◌≡◌, ◌≤◌, Ok, length};
+ghost use Rattle.std.specs.Prelude.{◌≡◌, ◌<◌, ◌≤◌, Ok, length};
 ghost use Rattle.grb_context.specs.Known.{known, none_made};
 ghost use Rattle.grb_context.specs.Statuses.{status_at};
 ghost use Rattle.grb_numbers.specs.Inside.{inside_object};
-ghost use Rattle.grb_generations.specs.Meeting.{MeetsHere};
+ghost use Rattle.grb_generations.specs.Meeting.{IsBeside, Meets, MeetsHere, MeetsNow};
 ghost use Rattle.grb_generations.specs.Seated.{Comes, Stays};
 
 use crate::member::Member;
 use grb_call::Object;
 use grb_core::{Info, Refusal};
+
+/// Where one member sits beside another that it is to meet (own).
+#[derive(Clone, Copy, Debug, PartialEq, Eq)]
+pub enum Meeting {
+    /// In the same generation: they met.
+    Here,
+    /// In a later generation, which begins with all that the other can know where it sits: there is nothing to learn.
+    Ahead,
+    /// In an earlier generation, and it could not move on at the moment. A later call tries again.
+    Behind,
+}
 
 impl Member {
     /// The status of the object, as [`Pass::last_info`](grb_context::Pass::last_info) has it: of the member's calls in the generation in
@@ -49,44 +60,98 @@ impl Member {
         self.context.blocks()
     }
 
-    /// Lets the member learn all that the other knows, where both sit in one generation, as
-    /// [`Context::meet`](grb_context::Context::meet) does. Where the other sits in a later one, the member looks and moves as far as it
-    /// can, and answers `Ok`: a further meeting then learns the rest. Where the other sits in an earlier one there is nothing to learn, since
-    /// each generation begins with all of those before it. `Panic` as of `Context::meet`. Takes no memory (own).
-    pub fn meet(&mut self, other: &mut Member) -> Result<(), Refusal>
-        requires chain { self.old.chain ≡ other.old.chain }
-        ensures together { self.old.generation ≡ other.old.generation → MeetsHere self.old self.new other.old result }
-        ensures apart { (self.old.generation ≡ other.old.generation → ⊥) → (result ≡ Ok (record {})) × Comes self.old self.new }
-        ensures other { other.new ≡ other.old }
-        ensures later { self.old.generation ≤ self.new.generation }
+    /// Where the member sits beside the other.
+    fn beside(&self, other: &Member) -> Meeting
+        requires chain { self.now.chain ≡ other.now.chain }
+        ensures { IsBeside self.now other.now result }
     {
         if self.generation == other.generation {
-            let _same = self.page.begins(&other.page);
-            return self.context.meet(&mut self.pass, &mut other.pass);
+            return Meeting::Here;
         }
         if self.generation < other.generation {
-            self.follow();
+            return Meeting::Behind;
         }
-        Ok(())
+        let _begins = other.page.begins(&self.page);
+        Meeting::Ahead
     }
 
-    /// The same, and where both sit in one generation the member keeps also what the other has evaluated, as
-    /// [`Context::adopt`](grb_context::Context::adopt) does. Takes memory for what it has to learn; where it is refused, the member evaluates
-    /// for itself. `Panic` as of `meet` (own).
-    pub fn adopt(&mut self, other: &mut Member) -> Result<(), Refusal>
-        requires chain { self.old.chain ≡ other.old.chain }
-        ensures together { self.old.generation ≡ other.old.generation → MeetsHere self.old self.new other.old result }
-        ensures apart { (self.old.generation ≡ other.old.generation → ⊥) → (result ≡ Ok (record {})) × Comes self.old self.new }
-        ensures other { other.new ≡ other.old }
+    /// Looks and moves as far as it can, where the other sits in a later generation; where it then sits beside the other.
+    fn come_to(&mut self, other: &Member) -> Meeting
+        requires chain { self.old.chain ≡ other.now.chain }
+        ensures comes { Comes self.old self.new }
+        ensures chain { self.new.chain ≡ self.old.chain }
+        ensures beside { IsBeside self.new other.now result }
+        ensures stays { other.now.generation ≤ self.old.generation → self.new ≡ self.old }
         ensures later { self.old.generation ≤ self.new.generation }
     {
-        if self.generation == other.generation {
-            let _same = self.page.begins(&other.page);
-            return self.context.adopt(&mut self.pass, &mut other.pass);
-        }
         if self.generation < other.generation {
             self.follow();
         }
-        Ok(())
+        self.beside(other)
+    }
+
+    /// Meets the other, which sits in the same generation.
+    fn meet_here(&mut self, other: &mut Member) -> Result<(), Refusal>
+        requires chain { self.old.chain ≡ other.old.chain }
+        requires together { self.old.generation ≡ other.old.generation }
+        ensures met { MeetsHere self.old self.new other.old result }
+        ensures other { other.new ≡ other.old }
+    {
+        let _same = self.page.begins(&other.page);
+        self.context.meet(&mut self.pass, &mut other.pass)
+    }
+
+    /// The same, and keeps also what the other has evaluated.
+    fn adopt_here(&mut self, other: &mut Member) -> Result<(), Refusal>
+        requires chain { self.old.chain ≡ other.old.chain }
+        requires together { self.old.generation ≡ other.old.generation }
+        ensures met { MeetsHere self.old self.new other.old result }
+        ensures other { other.new ≡ other.old }
+    {
+        let _same = self.page.begins(&other.page);
+        self.context.adopt(&mut self.pass, &mut other.pass)
+    }
+
+    /// Lets the member learn all that the other knows, where both sit in one generation, as
+    /// [`Context::meet`](grb_context::Context::meet) does. Where the other sits in a later one, the member first looks and moves as far as it
+    /// can. Where the member sits in a later one it learns nothing, since each generation begins with all of those before it. The answer
+    /// tells which it was. `Panic` as of `Context::meet`. Takes no memory (own).
+    pub fn meet(&mut self, other: &mut Member) -> Result<Meeting, Refusal>
+        requires chain { self.old.chain ≡ other.old.chain }
+        ensures meets { Meets self.old self.new other.old result }
+        ensures together { self.old.generation ≡ other.old.generation → MeetsNow self.old self.new other.old result }
+        ensures ahead { other.old.generation < self.old.generation → (result ≡ Ok Meeting.Ahead) × (self.new ≡ self.old) }
+        ensures other { other.new ≡ other.old }
+        ensures later { self.old.generation ≤ self.new.generation }
+    {
+        match self.come_to(other) {
+            Meeting::Here => match self.meet_here(other) {
+                Ok(()) => Ok(Meeting::Here),
+                Err(refusal) => Err(refusal),
+            },
+            Meeting::Ahead => Ok(Meeting::Ahead),
+            Meeting::Behind => Ok(Meeting::Behind),
+        }
+    }
+
+    /// The same, and where they meet the member keeps also what the other has evaluated, as
+    /// [`Context::adopt`](grb_context::Context::adopt) does. Takes memory for what it has to learn; where it is refused, the member evaluates
+    /// for itself. `Panic` as of `meet` (own).
+    pub fn adopt(&mut self, other: &mut Member) -> Result<Meeting, Refusal>
+        requires chain { self.old.chain ≡ other.old.chain }
+        ensures meets { Meets self.old self.new other.old result }
+        ensures together { self.old.generation ≡ other.old.generation → MeetsNow self.old self.new other.old result }
+        ensures ahead { other.old.generation < self.old.generation → (result ≡ Ok Meeting.Ahead) × (self.new ≡ self.old) }
+        ensures other { other.new ≡ other.old }
+        ensures later { self.old.generation ≤ self.new.generation }
+    {
+        match self.come_to(other) {
+            Meeting::Here => match self.adopt_here(other) {
+                Ok(()) => Ok(Meeting::Here),
+                Err(refusal) => Err(refusal),
+            },
+            Meeting::Ahead => Ok(Meeting::Ahead),
+            Meeting::Behind => Ok(Meeting::Behind),
+        }
     }
 }

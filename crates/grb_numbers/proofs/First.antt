@@ -31,10 +31,10 @@ pub first_numbers_show_the_store : FirstNumbersShowTheStore
 first_numbers_show_the_store s = λ i. record { matrices = objects-first s.matrices i; vectors = objects-first s.vectors i }
 
 -- the same numbers
-abbrev none : Renaming
+abbrev pub none : Renaming
 none = record { matrix = λ a. a; vector = λ v. v }
 
-renamed-none : (c : Call) → renamed none c ≡ c
+pub renamed-none : (c : Call) → renamed none c ≡ c
 renamed-none (call.EwiseAddMatrix c None accum op a b d) = refl
 renamed-none (call.EwiseAddMatrix c (Some m) accum op a b d) = refl
 renamed-none (call.EwiseAddVector w None accum op u v d) = refl

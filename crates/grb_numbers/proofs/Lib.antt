@@ -4,6 +4,7 @@ pub mod Lists
 pub mod LiveNumbers
 pub mod Next
 pub mod Numbering
+pub mod Outwards
 pub mod Renamed
 mod Rows
 pub mod Same

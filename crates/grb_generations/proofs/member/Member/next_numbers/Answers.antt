@@ -2,7 +2,7 @@ use Rattle.std.proofs.Common.{ℕ, ap, sym, subst, ◌∙◌}
 use Rattle.grb_call.specs.History.{store_of}
 use Rattle.grb_context.specs.Known.{known}
 use Rattle.grb_numbers.specs.Laws.{matrix_numbers, vector_numbers}
-use Rattle.grb_numbers.specs.Numbers.{AreChosen, AreNumbered, AreNumbers, NumbersSeen}
+use Rattle.grb_numbers.specs.Numbers.{AreChosen, AreNumbered, NumbersSeen}
 use Rattle.grb_numbers.specs.Seen.{AreNumbersOf}
 use Rattle.grb_generations.specs.Reasons.{IsMember}
 use Rattle.grb_generations.specs.Seated.{Seated}
@@ -24,8 +24,7 @@ pub next-requires-clause-numbered_matrices : goal.next-requires-clause-numbered_
 next-requires-clause-numbered_matrices c =
     let m : Seated = c.args.self.now in
     let member : IsMember m = subst IsMember c.self.view_is c.self.invariant.0 in
-    let are : AreNumbers m.numbers = subst AreNumbers (c.deref.ensures ∙ ap (λ (x : Seated). x.numbers) c.self.view_is) c.are_numbers.ensures in
-    let all : AreNumbersOf m.numbers (store_of (known m.pass)) = numbers_at_end m.numbers m.pass are member.numbers c.requires.end in
+    let all : AreNumbersOf m.numbers (store_of (known m.pass)) = numbers_at_end m.numbers m.pass member.numbers c.requires.end in
     subst (λ (x : NumbersSeen). AreNumbered x.matrices c.args.live.now.matrix_count) (sym (c.deref-2.ensures ∙ ap (λ (x : Seated). x.numbers) c.self.view_is))
     (subst (λ (k : ℕ). AreNumbered m.numbers.matrices k) (sym c.requires.live.matrix_count) all.matrices)
 
@@ -33,7 +32,6 @@ pub next-requires-clause-numbered_vectors : goal.next-requires-clause-numbered_v
 next-requires-clause-numbered_vectors c =
     let m : Seated = c.args.self.now in
     let member : IsMember m = subst IsMember c.self.view_is c.self.invariant.0 in
-    let are : AreNumbers m.numbers = subst AreNumbers (c.deref.ensures ∙ ap (λ (x : Seated). x.numbers) c.self.view_is) c.are_numbers.ensures in
-    let all : AreNumbersOf m.numbers (store_of (known m.pass)) = numbers_at_end m.numbers m.pass are member.numbers c.requires.end in
+    let all : AreNumbersOf m.numbers (store_of (known m.pass)) = numbers_at_end m.numbers m.pass member.numbers c.requires.end in
     subst (λ (x : NumbersSeen). AreNumbered x.vectors c.args.live.now.vector_count) (sym (c.deref-2.ensures ∙ ap (λ (x : Seated). x.numbers) c.self.view_is))
     (subst (λ (k : ℕ). AreNumbered m.numbers.vectors k) (sym c.requires.live.vector_count) all.vectors)

@@ -1,7 +1,6 @@
-use Rattle.std.proofs.Common.{◌≡◌, ◌∙◌, ◌+◌, ◌++◌, ◌∷◌, [], ℕ, List, None, ap, refl, sym, subst}
+use Rattle.std.proofs.Common.{◌≡◌, ◌∙◌, ◌+◌, ◌++◌, ◌∷◌, [], List, None, ap, refl, sym, subst}
 use Rattle.grb_chronicle.specs.Linked.{MayFollow, Reached}
-use Rattle.grb_context.specs.Known.{Knowing, Shared}
-use Rattle.grb_numbers.specs.Numbers.{NumbersSeen}
+use Rattle.grb_context.specs.Known.{Knowing}
 use Rattle.grb_generations.specs.Chain.{Chain}
 use Rattle.grb_generations.specs.Follows.{Follows}
 use Rattle.grb_generations.specs.Keeping.{IsAtEnd}
@@ -48,7 +47,7 @@ steps c =
       is = c.requires.told ∙ (λ k. record { context = (sym copied k).context; numbers = (sym copied k).numbers; last = (sym view k).pass });
       generation = ap (λ (s : Standing). s.generation) copied ∙ c.requires.number ∙ ap (λ (x : Seated). x.generation + 1) (sym view);
       number = ap (λ (p : Knowing). p.view.number) own ∙ c.requires.own ∙ ap (λ (x : Seated). x.pass.view.number) (sym view);
-      goes_on = subst (λ (y : ℕ × Shared × NumbersSeen × Knowing). GoesOn y.0 y.1 y.2 y.3) (λ k. ((sym view k).chain.room, (sym copied k).context, (sym copied k).numbers, sym own k)) c.requires.goes_on;
+      goes_on = subst (λ (y : Chain × Knowing). GoesOn y.0.room y.0.members c.args.mark.now y.1) (λ k. ((sym view k).chain, sym own k)) c.requires.goes_on;
       reason = refl;
     }
 
