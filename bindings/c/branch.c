@@ -51,13 +51,10 @@ int main(void)
     OK(TrB_Matrix_build_BOOL(&pass, graph, from, to, is_edge, EDGES, TrB_LOR));
     OK(TrB_Vector_new(&pass, &levels, TrB_UINT64, VERTICES));
 
-    /* No store has so much room beside the two changes that make the graph. */
-    ANSWERS(TrB_branch(&pass, &needed, &graph, 1, NULL, 0, 65536, &own, 1), TrB_INSUFFICIENT_SPACE);
-    printf("the graph takes %" PRIu64 " changes\n", needed);
-
     /* The branch begins. Then the graph loses an edge, which the branch keeps. */
     OK(TrB_branch(&pass, &needed, &graph, 1, NULL, 0, ROOM, &own, 1));
     OK(TrB_facts(&own, &before));
+    printf("the graph takes %" PRIu32 " changes\n", before.known);
     HOLDS(before.room_left == ROOM);
     OK(TrB_Matrix_removeElement(&pass, graph, 2, 3));
     TrB_Vector found = search(&own);

@@ -12,6 +12,10 @@
 #include <string.h>
 
 enum { ROOM = 40, MOST_PASSES = 256 };
+
+/* How often an object is chosen for a branch. It takes two changes each time: with 4,095 beside them they are one more than
+ * 256 passes may share. */
+enum { MOST_CHOSEN = 522241 };
 #define UNTOUCHED 77
 #define DIMENSION_TOO_LARGE ((TrB_Index)UINT32_MAX + 1)
 
@@ -127,9 +131,6 @@ static void of_successors(void)
     UNCHANGED(TrB_INVALID_VALUE, "a successor by a pass that is open", TrB_succeed(&passes[0], &needed, ROOM, &passes[1], 1));
     UNCHANGED(TrB_UNINITIALIZED_OBJECT, "a successor of no pass", TrB_succeed(&none, &needed, ROOM, next, 1));
     HOLDS(needed == UNTOUCHED);
-    UNCHANGED(TrB_INSUFFICIENT_SPACE, "a successor with room for 65,527 changes, which begins with 10",
-            TrB_succeed(&passes[0], &needed, 65527, next, 1));
-    HOLDS(needed == 10);
 
     /* None of these was opened. */
     bool full = true;
@@ -150,9 +151,11 @@ static void of_chains(void)
     UNCHANGED(TrB_INVALID_VALUE, "a chain with 257 passes", TrB_chain_open(1, links, MOST_PASSES + 1));
     UNCHANGED(TrB_INVALID_VALUE, "a chain by the passes of this store", TrB_chain_open(ROOM, passes, 2));
     UNCHANGED(TrB_INVALID_VALUE, "the generation of a store", TrB_chain_generation(&passes[0], &generation));
+    UNCHANGED(TrB_INVALID_VALUE, "the objects that a store has place for", TrB_chain_objects_left(&passes[0], &generation));
     UNCHANGED(TrB_INVALID_VALUE, "a store goes on", TrB_chain_go_on(&passes[0], &needed, &moved));
     UNCHANGED(TrB_INVALID_VALUE, "a seat of a store", TrB_chain_seat(&passes[0], 0, &none));
     UNCHANGED(TrB_UNINITIALIZED_OBJECT, "the generation of no pass", TrB_chain_generation(&none, &generation));
+    UNCHANGED(TrB_UNINITIALIZED_OBJECT, "the objects that no pass has place for", TrB_chain_objects_left(&none, &generation));
     UNCHANGED(TrB_UNINITIALIZED_OBJECT, "no pass goes on", TrB_chain_go_on(&none, &needed, &moved));
     UNCHANGED(TrB_UNINITIALIZED_OBJECT, "a seat of no pass", TrB_chain_seat(&none, 0, &links[0]));
 
@@ -176,35 +179,32 @@ static void of_chains(void)
     ANSWERS(TrB_chain_generation(&links[0], &generation), TrB_UNINITIALIZED_OBJECT);
 }
 
-/* A generation that is as large as any can be has no next one, once there is an object. Then a change is refused, and a
- * branch goes on from it. */
-static void of_long_chains(void)
+/* A store of 256 passes that begins with these objects is one change too large, and so is its successor. */
+static void of_many_objects(void)
 {
-    TrB_Pass link = TRB_PASS_INIT, branch = TRB_PASS_INIT;
-    TrB_Vector kept;
-    uint64_t needed = UNTOUCHED, x = 0;
-    bool moved = true, full = true;
-    OK(TrB_chain_open(65536, &link, 1));
-    OK(TrB_Vector_new(&link, &kept, TrB_UINT64, 3));
-    for (uint32_t k = 1; k < 65536; k++) {
-        OK(TrB_Vector_setElement_UINT64(&link, kept, k, 1));
+    static TrB_Pass next[MOST_PASSES] = {TRB_PASS_INIT};
+    static TrB_Vector chosen[MOST_CHOSEN];
+    TrB_Pass pass = TRB_PASS_INIT, apart = TRB_PASS_INIT;
+    TrB_Vector made;
+    uint64_t needed = UNTOUCHED, count = 0;
+    OK(TrB_open(ROOM, &pass, 1));
+    OK(TrB_Vector_new(&pass, &made, TrB_BOOL, 3));
+    OK(TrB_Vector_setElement_BOOL(&pass, made, true, 2));
+    for (size_t k = 0; k < MOST_CHOSEN; k++) {
+        chosen[k] = made;
     }
-    OK(TrB_is_full(&link, &full));
-    HOLDS(!full);
-    UNCHANGED(TrB_ORDER_FULL, "a change of a chain that has no next generation", TrB_Vector_clear(&link, kept));
-    OK(TrB_is_full(&link, &full));
-    HOLDS(full);
-    UNCHANGED(TrB_INSUFFICIENT_SPACE, "why it has none", TrB_chain_go_on(&link, &needed, &moved));
-    HOLDS(needed == 2 && moved);
-    OK(TrB_Vector_extractElement_UINT64(&link, &x, kept, 1));
-    HOLDS(x == 65535);
-    OK(TrB_branch(&link, &needed, NULL, 0, &kept, 1, 65534, &branch, 1));
-    TrB_free(&link);
-    kept.id = 0;
-    OK(TrB_Vector_setElement_UINT64(&branch, kept, 5, 1));
-    OK(TrB_Vector_extractElement_UINT64(&branch, &x, kept, 1));
-    HOLDS(x == 5);
-    TrB_free(&branch);
+    UNCHANGED(TrB_INSUFFICIENT_SPACE, "a branch of 256 passes that is a change too large",
+              TrB_branch(&pass, &needed, NULL, 0, chosen, MOST_CHOSEN, 4095, next, MOST_PASSES));
+    HOLDS(needed == 2 * MOST_CHOSEN);
+    OK(TrB_branch(&pass, &needed, NULL, 0, chosen, MOST_CHOSEN, 1, &apart, 1));
+    OK(TrB_Vector_nvals(&apart, &count, (TrB_Vector){MOST_CHOSEN - 1}));
+    HOLDS(count == 1);
+    needed = UNTOUCHED;
+    UNCHANGED(TrB_INSUFFICIENT_SPACE, "a successor of 256 passes that is a change too large",
+              TrB_succeed(&apart, &needed, 4095, next, MOST_PASSES));
+    HOLDS(needed == 2 * MOST_CHOSEN);
+    TrB_free(&apart);
+    TrB_free(&pass);
 }
 
 static void of_meetings(void)
@@ -393,7 +393,7 @@ int main(void)
     of_openings();
     of_successors();
     of_chains();
-    of_long_chains();
+    of_many_objects();
     of_meetings();
     of_numbers();
     of_objects();

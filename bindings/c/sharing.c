@@ -172,6 +172,32 @@ static void release(void)
     end(passes);
 }
 
+/* Where the other pass of a chain sits in a later generation, a pass goes there, and knows all that it knows. */
+static void meet_in_chain(void)
+{
+    for (int adopts = 0; adopts < 2; adopts++) {
+        TrB_Pass passes[PASSES] = {TRB_PASS_INIT};
+        TrB_Pass *behind = &passes[0], *ahead = &passes[1];
+        TrB_Vector v;
+        TrB_Facts facts;
+        uint64_t generation;
+        OK(TrB_chain_open(SETS / 2, passes, PASSES));
+        OK(TrB_Vector_new(ahead, &v, TrB_UINT64, 2));
+        for (size_t k = 0; k < SETS; k++) {
+            OK(TrB_Vector_setElement_UINT64(ahead, v, k, 0));
+        }
+        OK(TrB_meet(ahead, behind));
+        OK(TrB_chain_generation(behind, &generation));
+        HOLDS(generation == 0);
+        OK(adopts ? TrB_adopt(behind, ahead) : TrB_meet(behind, ahead));
+        OK(TrB_chain_generation(behind, &generation));
+        HOLDS(generation == 2);
+        OK(TrB_facts(ahead, &facts));
+        has_made(behind, facts.known, 0);
+        end(passes);
+    }
+}
+
 int main(void)
 {
     fill();
@@ -179,5 +205,6 @@ int main(void)
     prepare();
     load();
     release();
+    meet_in_chain();
     return 0;
 }

@@ -22,18 +22,18 @@ static void go_on(TrB_Pass *passes, TrB_Matrix graph)
     bool full = false;
     TrB_Index edges;
     uint64_t needed = 0;
+    TrB_Facts facts;
     TrB_Info last;
 
-    /* What the other pass knows counts too. Then nothing is left out. */
-    OK(TrB_meet(&passes[0], &passes[1]));
+    OK(TrB_Matrix_nvals(&passes[0], &edges, graph));
     OK(TrB_is_full(&passes[0], &full));
     HOLDS(full);
-    OK(TrB_Matrix_nvals(&passes[0], &edges, graph));
 
-    /* The most room beside the changes that make the objects is refused, and tells how many these are. */
-    ANSWERS(TrB_succeed(&passes[0], &needed, 65536, next, PASSES), TrB_INSUFFICIENT_SPACE);
-    printf("full with %" PRIu64 " edges; a successor begins with %" PRIu64 " changes\n", edges, needed);
+    /* What makes the objects takes none of its room. */
     OK(TrB_succeed(&passes[0], &needed, ROOM, next, PASSES));
+    OK(TrB_facts(&next[0], &facts));
+    printf("full with %" PRIu64 " edges; a successor begins with %" PRIu32 " changes\n", edges, facts.known);
+    HOLDS(facts.room_left == ROOM);
 
     /* The new passes see the same graph, but no object has a status yet. The old store goes on to answer. */
     TrB_Index there;

@@ -19,7 +19,8 @@
  *   store     The objects, and the one history of the calls that made them. TrB_open opens a store.
  *             It ends with its last pass.
  *   history   The calls that changed the store, in one order that all threads see.
- *   room      How many changes the history takes in its whole life, from 1 to 65,536.
+ *   room      How many changes the history takes in its whole life, from 1 to 65,536. Those that make the
+ *             objects with which a successor, a branch or a generation begins take none of it.
  *   chain     A store without an end, which TrB_chain_open opens: where the room of one generation is
  *             used up, the next one goes on by itself with all objects and their numbers. What is said
  *             of a store and its passes holds of a chain and its own, but where a comment tells more.
@@ -46,7 +47,9 @@
  *                              call, its mask too, was never made or was freed.
  *   TrB_INVALID_VALUE          A number stands for no type, operator, monoid, mode or descriptor.
  *   TrB_ORDER_FULL             To a change alone: the room is used up. Reads go on. A chain refuses it
- *                              where it has no next generation; TrB_chain_go_on tells why.
+ *                              where it has no next generation, and TrB_chain_go_on tells why; or the
+ *                              call makes an object, and TrB_chain_objects_left tells that there is no
+ *                              place for one more.
  *   TrB_OUT_OF_MEMORY          Memory was refused. Free some, and make the call again.
  *   TrB_PANIC                  The record of a call was not taken or not shown. Make the call again;
  *                              where it comes again, stop using the store.
@@ -321,6 +324,7 @@ int32_t trb_branch(uint64_t store, uint32_t room, TrB_Pass *pass, const uint32_t
 int32_t trb_is_full(TrB_Pass *pass, bool *out);
 int32_t trb_chain_open(uint64_t store, uint32_t room, TrB_Pass *passes, size_t npasses);
 int32_t trb_chain_generation(TrB_Pass *pass, uint64_t *out);
+int32_t trb_chain_objects_left(TrB_Pass *pass, uint64_t *out);
 int32_t trb_chain_go_on(TrB_Pass *pass, uint64_t *needed, bool *moved);
 int32_t trb_chain_seat(TrB_Pass *pass, uint32_t number, TrB_Pass *into);
 void trb_free(TrB_Pass *pass);
@@ -490,8 +494,15 @@ static inline TrB_Info TrB_open(uint32_t room, TrB_Pass *passes, size_t npasses)
  *               TrB_facts are those of the generation in which the pass sits.
  *   memory      A generation is freed when its last pass has left it: so let an idle pass make a read now
  *               and then, or free it. TrB_chain_seat gives its place to another.
- *   room        Each generation has `room` beside the changes that make the objects. Both together are at
- *               most 65,536, and times the passes at most 1,048,576. 4,096 is a good one for few passes.
+ *   room        Each generation has `room` beside the changes that make the objects. 4,096 is a good one
+ *               for few passes, and less for more than 64.
+ *   objects     A generation begins with one or two changes for each object. These, and `room` beside them,
+ *               are at most 4,194,304, and times the passes at most 268,435,456. So a chain of up to 64
+ *               passes takes some 2,090,000 objects with a room of 4,096. Where one more could leave no
+ *               room for the next generation, a call that makes an object is refused by TrB_ORDER_FULL, and
+ *               calls that free, clear or change objects go on: with R for the room, that is so in a chain
+ *               of up to 64 passes of (4,194,304 - R) / 2 objects, and where a generation begins of more than
+ *               (4,194,304 - 3 R) / 2. Free objects; TrB_chain_objects_left tells when others are made again.
  *
  * All calls are made as with any store, but for TrB_succeed, which has nothing to do here.
  * Refused: TrB_INVALID_VALUE where room or npasses is out of its range, or one of the passes is open.
@@ -514,11 +525,23 @@ static inline TrB_Info TrB_chain_generation(TrB_Pass *pass, uint64_t *generation
     return (TrB_Info)trb_chain_generation(pass, generation);
 }
 
+/* Tells how many more objects the chain of a pass has place for, beside all that there can be where the
+ * generation ends in which the pass sits: those that it began with or made, and one for each change that it
+ * takes yet. Where it is 0, a call that makes an object is refused by TrB_ORDER_FULL. A change that makes none
+ * raises it by one, as far as it is not 0. A new generation lowers it: what was freed counts no more, and one
+ * object for each change of its own does. It learns nothing new. Takes no room.
+ * Refused: TrB_INVALID_VALUE where the pass is of no chain. */
+static inline TrB_Info TrB_chain_objects_left(TrB_Pass *pass, uint64_t *left)
+{
+    return (TrB_Info)trb_chain_objects_left(pass, left);
+}
+
 /* Takes a pass of a chain to a later generation, where its own is used up and it knows every change of
  * that, and makes the next one where there is none. *moved tells whether it moved. Each call does so by
  * itself: this is for who was answered TrB_ORDER_FULL and asks why, and for who makes the next generation
  * ahead of the call that needs it. Takes no room.
  * Answers TrB_NO_VALUE, and does not write *moved, where others make the next generation: try again.
+ * A call that was refused since there is no place for an object is told by TrB_chain_objects_left alone.
  * Refused: TrB_INVALID_VALUE where the pass is of no chain; TrB_INSUFFICIENT_SPACE where no history has the
  * room of a generation beside the changes that make the objects, and *needed tells how many these are: a
  * branch with less room goes on. It is not written else. TrB_ORDER_FULL where all numbers of objects were
@@ -529,7 +552,8 @@ static inline TrB_Info TrB_chain_go_on(TrB_Pass *pass, uint64_t *needed, bool *m
 }
 
 /* Gives the pass of a chain with this number anew, in *into, which is none before: that of a thread which
- * has freed its own. `pass` is any other pass of the chain. Takes no room.
+ * has freed its own. `pass` is any other pass of the chain; *into sits where that does, or in a later
+ * generation. Takes no room.
  * Answers TrB_NO_VALUE, and *into stays none, where the pass is not to be had: there is none of this
  * number, or it is not freed, or it was freed in a generation that others have left, and they have not left
  * the next one. Refused: TrB_INVALID_VALUE where `pass` is of no chain, or *into is open. */
@@ -540,30 +564,32 @@ static inline TrB_Info TrB_chain_seat(TrB_Pass *pass, uint32_t number, TrB_Pass 
 
 /* Tells in *full whether the room is used up and `pass` knows every change. Then no pass of the store
  * will ever know another one. It learns nothing new: let `pass` meet the others before. Of a chain it tells
- * whether the pass is at the end of its generation and was refused the next one. Takes no room. */
+ * whether the pass was refused a next generation, or place for an object, in the generation in which it sits;
+ * it may go on by then. Takes no room. */
 static inline TrB_Info TrB_is_full(TrB_Pass *pass, bool *full)
 {
     return (TrB_Info)trb_is_full(pass, full);
 }
 
-/* Opens the successor of a store: a store of its own that begins with what `pass` knows of this one. Its
- * passes are given as by TrB_open, with the same ranges of room and npasses.
+/* Opens the successor of a store: a store of its own that begins with this one as it is at a moment of the
+ * call. `pass` looks for news first, as each call does. The passes are given as by TrB_open, with the same
+ * ranges of room and npasses.
  *
- *   goes over   Every object: its number means the same object in both stores, with the domain, the
- *               dimensions and the entries that `pass` knows. A freed number stays freed, and the next
- *               object is given the next number.
+ *   goes over   Every object, whoever made it: its number means the same object in both stores, with the
+ *               domain, the dimensions and the entries of that moment. A freed number stays freed, and
+ *               the next object is given the next number, so none is given anew.
  *   anew        The history begins with the changes that make these objects, one or two for each number
  *               that was ever given. The new passes know them, and share what is evaluated of them. No
  *               object has a status, and nothing is settled.
- *   room        The successor has room for `room` changes beside those that make its objects.
+ *   room        The successor has room for `room` changes beside those that make its objects. Together they
+ *               are at most 4,194,304, and times npasses at most 268,435,456.
  *   stays       The old store: its passes are valid, and are freed by their owner. Objects are shared
  *               with it until one of the two changes one.
  *
- * Where TrB_is_full holds of `pass`, nothing is lost. Called earlier it makes a store beside this one:
- * what is changed here later is not there, and the number of an object that is made here later may mean
- * another object there. `pass`, the old passes and the new ones are different memory:
+ * Where the room is used up, as it is after TrB_ORDER_FULL, nothing is lost. Called earlier it makes a
+ * store beside this one: what is changed here later is not there, and the number of an object that is made
+ * here later may mean another object there. `pass`, the old passes and the new ones are different memory:
  *
- *     TrB_meet(&old[0], &old[1]);                           // when the thread that had old[1] has ended
  *     info = TrB_succeed(&old[0], &needed, 1000, next, 2);  // room for 1,000 changes, two passes
  *     TrB_free(&old[0]);                                    // the old store ends with its last pass
  *     TrB_free(&old[1]);
@@ -584,13 +610,14 @@ static inline TrB_Info TrB_succeed(TrB_Pass *pass, uint64_t *needed, uint32_t ro
     return trb_end_opening(status, passes, npasses);
 }
 
-/* Opens a branch: a store of its own that begins with chosen objects of this one, all of them as `pass`
- * knows them, at one moment. A read or a wait of `pass` learns the newest changes first. Its passes are
+/* Opens a branch: a store of its own that begins with chosen objects of this one, all of them as they are
+ * at one moment of the call. `pass` looks for news first, as each call does. The passes of the branch are
  * given as by TrB_open, with the same ranges of room and npasses.
  *
  *   numbers     matrices[k] has the number k in the branch, and so has vectors[k]; the next object is
  *               given the next number. One that was freed or never made is not there.
- *   room        The branch has room for `room` changes. Those that make its objects take none of them.
+ *   room        The branch has room for `room` changes beside those that make its objects, with the limits
+ *               of a successor.
  *   stays       This store, and what is made or changed in either is not seen in the other. Objects are
  *               shared until one of the two changes one. No entry is copied, and of this store only what
  *               was chosen is evaluated.
@@ -630,7 +657,10 @@ static inline void TrB_free(TrB_Pass *pass)
 
 /* Lets `pass` learn all that `other` knows. Each call looks for news by itself, so this is for passes
  * that hand work over with no call between. Nothing that `other` knows changes. Both passes are used by
- * this thread meanwhile. Takes no room.
+ * this thread meanwhile. In a chain `pass` moves on first, where `other` sits in a later generation; where
+ * `other` sits in an earlier one, `pass` knows all of that. Takes no room.
+ * Answers TrB_NO_VALUE, in a chain alone, where `other` sits in a later generation to which `pass` could
+ * not move now: try again.
  * Refused: TrB_INVALID_VALUE where the two are of two stores, or are one pass. */
 static inline TrB_Info TrB_meet(TrB_Pass *pass, TrB_Pass *other)
 {
@@ -638,8 +668,9 @@ static inline TrB_Info TrB_meet(TrB_Pass *pass, TrB_Pass *other)
 }
 
 /* Does as TrB_meet, and lets `pass` go on from what `other` has evaluated: its next read does what is
- * left. No entry is copied until one of the two changes its object.
- * Refused: as TrB_meet. */
+ * left. No entry is copied until one of the two changes its object. In a chain it does so where both sit in
+ * one generation then.
+ * Answers TrB_NO_VALUE as TrB_meet. Refused: as TrB_meet. */
 static inline TrB_Info TrB_adopt(TrB_Pass *pass, TrB_Pass *other)
 {
     return pass == other ? TrB_INVALID_VALUE : (TrB_Info)trb_adopt(pass, other);
@@ -1470,7 +1501,7 @@ static inline const char *TrB_hint(TrB_Info info)
     case TrB_DIMENSION_MISMATCH: return "Give objects whose dimensions fit together.";
     case TrB_OUTPUT_NOT_EMPTY: return "Clear the object, or build a new one.";
     case TrB_INDEX_OUT_OF_BOUNDS: return "Give a list whose indices are below the dimensions.";
-    case TrB_ORDER_FULL: return "Open its successor, or a chain, which goes on by itself; of a chain ask TrB_chain_go_on. Reads go on.";
+    case TrB_ORDER_FULL: return "A store with a room: open its successor. A chain: free objects, where TrB_chain_objects_left tells 0; else ask TrB_chain_go_on. Reads go on.";
     case TrB_OUT_OF_MEMORY: return "Nothing has changed: free memory, and make the call again.";
     case TrB_PANIC: return "The call did nothing: make it again.";
     case TrB_INSUFFICIENT_SPACE: return "Give arrays with a place for each entry, or more room; the count is told.";

@@ -33,15 +33,9 @@ int main()
     const auto counted = pass.new_matrix<std::uint64_t>(vertices, vertices);
     pass.build(graph, {0, 1, 2}, {1, 2, 3}, {1, 1, 1}, plus);
 
-    try {
-        static_cast<void>(pass.branch({graph.id()}, {}, most_room, 1));
-        return 1;
-    } catch (const RoomTooSmall &refusal) {
-        std::cout << "the graph takes " << refusal.needed() << " changes\n";
-    }
-
     Store apart = pass.branch({graph.id()}, {}, 10, 1);
     Pass own = apart.take();
+    std::cout << "the graph takes " << own.facts().known << " changes\n";
     pass.clear(graph);
     const auto paths = two_steps(own);
     pass.build_from(counted, own, paths);

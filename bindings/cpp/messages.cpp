@@ -131,8 +131,9 @@ void others(grb::Pass &pass)
     refused(grb::Status::uninitialized_object, [&] { (void)other.nvals(freed); });
     refused(grb::Status::uninitialized_object, [&] { other.ewise_add(freed, grb::lor, freed, freed); });
     (void)other.new_vector<bool>(3);
-    // The freed vector takes one or two changes in the successor, and the other one takes one.
-    refused(grb::Status::insufficient_space, [&] { (void)other.succeed(grb::most_room, 1); });
+    // An object is made anew for each time that it is chosen, and so many changes are one more than 256 passes may share.
+    const std::vector<std::uint32_t> chosen(1044481, 1);
+    refused(grb::Status::insufficient_space, [&] { (void)other.branch({}, chosen, 4096, grb::most_passes); });
     grb::Pass moved = std::move(other);
     refused(grb::Status::uninitialized_object, [&] { (void)other.new_vector<bool>(2); });
     refused(grb::Status::uninitialized_object, [&] { pass.meet(other); });

@@ -33,26 +33,14 @@ Passes take_all(grb::Store store)
     return passes;
 }
 
-/// How many changes make the objects, as a successor that is to have the most room beside them tells.
-std::uint64_t changes_needed(grb::Pass &pass)
-{
-    try {
-        static_cast<void>(pass.succeed(grb::most_room, 1));
-    } catch (const grb::RoomTooSmall &refusal) {
-        return refusal.needed();
-    }
-    return 1;
-}
-
 /// The passes of a successor of a full store.
 Passes go_on(Passes &passes, Graph graph)
 {
-    // What the other pass knows counts too. Then nothing is left out.
-    passes[0].meet(passes[1]);
-    require(passes[0].is_full(), "no pass will know more");
     const grb::Index edges = passes[0].nvals(graph);
-    std::cout << "full with " << edges << " edges; a successor begins with " << changes_needed(passes[0]) << " changes\n";
+    require(passes[0].is_full(), "no pass will know more");
     Passes next = take_all(passes[0].succeed(room, passes_of_each));
+    std::cout << "full with " << edges << " edges; a successor begins with " << next[0].facts().known << " changes\n";
+    require(next[0].facts().room_left == room, "what makes the objects takes none of the room");
 
     // The new passes see the same graph, but no object has a status yet. The old store goes on to answer.
     require(!next[1].last_status(graph), "statuses begin anew");

@@ -80,7 +80,7 @@ enum class Status : std::int32_t {
     dimension_mismatch = TrB_DIMENSION_MISMATCH,      ///< the objects do not fit together
     output_not_empty = TrB_OUTPUT_NOT_EMPTY,          ///< the object of a build stores an entry
     index_out_of_bounds = TrB_INDEX_OUT_OF_BOUNDS,    ///< an index in the list of a build is not below the dimension
-    order_full = TrB_ORDER_FULL,                      ///< the room is used up
+    order_full = TrB_ORDER_FULL,                      ///< the room is used up, or a chain has no place for an object
     out_of_memory = TrB_OUT_OF_MEMORY,                ///< memory was refused
     panic = TrB_PANIC,                                ///< the record of a call was not taken or not shown
     insufficient_space = TrB_INSUFFICIENT_SPACE,      ///< arrays are too short: entries() sees to it; or RoomTooSmall
@@ -164,8 +164,8 @@ public:
     {
     }
 
-    /// How many changes make the objects. The room and these are at most most_room, and times the passes at most
-    /// 1,048,576.
+    /// How many changes make the objects. The room and these are at most 4,194,304, and times the passes at most
+    /// 268,435,456.
     [[nodiscard]] std::uint64_t needed() const noexcept { return needed_; }
 
 private:
@@ -775,20 +775,21 @@ public:
     /// Whether it is a pass of a store, and was not moved from.
     [[nodiscard]] bool is_open() const noexcept { return number_ != nullptr; }
 
-    /// Learns all that the other pass knows, as TrB_meet. A pass that meets itself has nothing to learn.
-    void meet(Pass &other)
+    /// Learns all that the other pass knows, as TrB_meet; whether it does. Of one store it always does, and a pass that
+    /// meets itself has nothing to learn. In a chain it does not where the other one sits in a later generation, to which
+    /// this one could not move now: then try again.
+    bool meet(Pass &other)
     {
-        if (this != &other) {
-            detail::check(TrB_meet(&raw_, &other.raw_), told_of_meeting);
-        }
+        return this == &other ||
+               detail::check(TrB_meet(&raw_, &other.raw_), told_of_meeting) != Status::no_value;
     }
 
-    /// Learns all that the other pass knows, and goes on from what it has evaluated, as TrB_adopt.
-    void adopt(Pass &other)
+    /// Learns all that the other pass knows, and goes on from what it has evaluated, as TrB_adopt; whether it learnt that,
+    /// as meet.
+    bool adopt(Pass &other)
     {
-        if (this != &other) {
-            detail::check(TrB_adopt(&raw_, &other.raw_), told_of_meeting);
-        }
+        return this == &other ||
+               detail::check(TrB_adopt(&raw_, &other.raw_), told_of_meeting) != Status::no_value;
     }
 
     /// Evaluates what the pass knows where that is dear, so that others may adopt it. Answers before how many of
@@ -837,11 +838,20 @@ public:
         return generation;
     }
 
+    /// How many more objects the chain has place for, beside all that there can be where the generation ends in which
+    /// the pass sits; 0 where a call that makes one is refused with Status::order_full. As TrB_chain_objects_left.
+    [[nodiscard]] std::uint64_t objects_left()
+    {
+        std::uint64_t left = 0;
+        detail::check(TrB_chain_objects_left(&raw_, &left), told_of_chain);
+        return left;
+    }
+
     /// Goes to a later generation of the chain, where its own is used up and it knows every change of that, and makes
     /// the next one where there is none; whether it moved. Each call does so by itself: this is for who was answered
-    /// Status::order_full, and asks why. It does not where others make the next one: then try again. As
-    /// TrB_chain_go_on. Throws RoomTooSmall where no history has the room of a generation beside the changes that make
-    /// the objects.
+    /// Status::order_full, and asks why, where objects_left is not 0. It does not where others make the next one: then
+    /// try again. As TrB_chain_go_on. Throws RoomTooSmall where no history has the room of a generation beside the
+    /// changes that make the objects.
     bool go_on()
     {
         std::uint64_t needed = 0;
@@ -873,15 +883,16 @@ public:
         return full;
     }
 
-    /// Opens the successor of the store, which begins with what this pass knows: each object of this store means
-    /// the same there. As TrB_succeed, with room and passes as of Store. Throws RoomTooSmall where no store has room for
-    /// the changes that make the objects and for `room` more. A chain has none, since it goes on by itself.
+    /// Opens the successor of the store, which begins with this one as it is now: the pass looks for news first, as in
+    /// each call, and each object of this store means the same there. As TrB_succeed, with room and passes as of Store.
+    /// Throws RoomTooSmall where no store has room for the changes that make the objects and for `room` more. A chain
+    /// has none, since it goes on by itself.
     [[nodiscard]] Store succeed(std::uint32_t room, std::uint32_t passes);
 
-    /// Opens a branch: a store of its own that begins with these objects, all of them as this pass knows them, at one
-    /// moment. The matrix at place k of its list has the number k there, Matrix<T>(k), and so has the vector at place k
-    /// of its own. As TrB_branch, with room and passes as of Store. Throws RoomTooSmall where no store has room for
-    /// the changes that make the objects and for `room` more.
+    /// Opens a branch: a store of its own that begins with these objects, all of them as they are at one moment of the
+    /// call: the pass looks for news first, as in each call. The matrix at place k of its list has the number k there,
+    /// Matrix<T>(k), and so has the vector at place k of its own. As TrB_branch, with room and passes as of Store. Throws
+    /// RoomTooSmall where no store has room for the changes that make the objects and for `room` more.
     ///
     ///     Store apart = pass.branch({graph.id()}, {}, 1000, 1);
     [[nodiscard]] Store branch(const std::vector<std::uint32_t> &matrices, const std::vector<std::uint32_t> &vectors,
@@ -2210,8 +2221,8 @@ public:
     /// Opens a chain with this many passes, from 1 to most_passes. Throws as Store.
     explicit Chain(std::uint32_t passes) : Chain(default_room(passes), passes) {}
 
-    /// The same with generations of so much room, from 1 to most_room. Each has it beside the changes that make the
-    /// objects: both together are at most most_room, and times the passes at most 1,048,576.
+    /// The same with generations of so much room, from 1 to most_room, with the limits of Store. Each has it beside the
+    /// changes that make the objects. How many objects a chain takes is told at TrB_chain_open.
     Chain(std::uint32_t room, std::uint32_t passes)
     {
         detail::check_version();

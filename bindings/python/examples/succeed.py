@@ -5,7 +5,7 @@ from __future__ import annotations
 from typing import Dict, Tuple
 
 import drawn
-from trowelheath import MOST_ROOM, Matrix, OrderFull, RoomTooSmall, Store, UninitializedObject
+from trowelheath import Matrix, OrderFull, Store, UninitializedObject
 
 VERTICES = 1000
 EDGES = 500
@@ -13,25 +13,16 @@ ROOM = 100
 SEED = 8
 
 
-def calls_needed(store: Store) -> int:
-    """How many calls make the objects of the store, as a successor with the most room beside them tells."""
-    try:
-        store.main.succeed(room=MOST_ROOM).close()
-    except RoomTooSmall as refusal:
-        return refusal.needed
-    raise SystemExit("no store has so much room")
-
-
 def go_on(store: Store, graph: Matrix) -> Store:
     """A successor of the store, which is full and closed then."""
-    # What the other passes know counts too. Then nothing is left out.
-    for other in store.passes[1:]:
-        store.main.meet(other)
+    edges = len(graph)
     if not store.main.is_full():
         raise SystemExit("the store is not full")
-    edges = len(graph)
-    print(f"full with {edges} edges; a successor begins with {calls_needed(store)} changes")
     successor = store.main.succeed(room=ROOM, passes=2)
+    facts = successor.main.facts()
+    print(f"full with {edges} edges; a successor begins with {facts.known} changes")
+    if facts.room_left != ROOM:
+        raise SystemExit("what makes the objects takes none of the room")
 
     # The new passes see the same graph, but no object has a status yet. The old store goes on to answer.
     there = graph.using(successor.passes[1])

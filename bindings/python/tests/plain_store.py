@@ -16,8 +16,8 @@ Entries = Dict[Any, Any]
 Shape = Tuple[int, ...]
 
 MOST_DIMENSION = 2**32 - 1
-MOST_ROOM = 65_536
-MOST_SEATS = 1_048_576
+MOST_WORDS = 4_194_304
+MOST_PLACES = 268_435_456
 
 CHANGES = {"new", "dup", "diag", "free", "set", "remove", "clear", "resize", "build"}
 
@@ -165,6 +165,16 @@ class PlainStore:
         own.statuses = {}
         own.is_refused = False
 
+    def look(self, by: int) -> None:
+        """The pass learns the newest words, as by a read, and goes where the others are."""
+        own = self.passes[by]
+        self.follow(own)
+        self.learn(own)
+
+    def has_news(self, by: int) -> bool:
+        """Whether there is a change that the pass has not learnt."""
+        return self.passes[by].known < len(self.moments) - 1
+
     def follow(self, own: PlainPass) -> None:
         """The pass goes where the others are."""
         if self.is_behind(own):
@@ -172,11 +182,11 @@ class PlainStore:
             self.move(own)
 
     def meet(self, by: int, other: int) -> None:
-        """A pass learns what another one knows."""
+        """A pass learns what another one knows. It goes before to the last generation, where that sits in a later one."""
         own, theirs = self.passes[by], self.passes[other]
         if own.generation < theirs.generation:
             self.follow(own)
-        elif own.generation == theirs.generation:
+        if own.generation == theirs.generation:
             known = max(own.known, theirs.known)
             own.steps = known - own.known
             own.known = known
@@ -207,7 +217,7 @@ class PlainStore:
     @staticmethod
     def has_room(begin: int, room: int, passes: int) -> bool:
         """Whether a history may have so much room beside the calls that make its objects."""
-        return begin + room <= MOST_ROOM and (begin + room) * passes <= MOST_SEATS
+        return begin + room <= MOST_WORDS and (begin + room) * passes <= MOST_PLACES
 
     def opened(self, moment: Moment, begin: int, room: int, passes: int) -> Union[PlainStore, Refused]:
         if not self.has_room(begin, room, passes):
@@ -215,17 +225,19 @@ class PlainStore:
         return PlainStore(room, passes, False, moment, begin)
 
     def succeed(self, by: int, room: int, passes: int) -> Union[PlainStore, Refused]:
-        """A store that begins with all that a pass knows. Each number that was given takes a call to make, or two."""
+        """A store that begins with all that is there. Each number that was given takes a call to make, or two."""
         if self.is_chain:
             return Refused(Info.INVALID_VALUE)
         self.free_let_go(by)
+        self.look(by)
         there = self.moment(by)
         numbers = [(sort, number) for sort in ("matrix", "vector") for number in range(there.made[sort])]
         return self.opened(there, sum(_calls_for(there.tables.get(key)) for key in numbers), room, passes)
 
     def branch(self, by: int, keys: Iterable[Key], room: int, passes: int) -> Union[PlainStore, Refused]:
-        """A store that begins with the objects of these keys, as a pass knows them, numbered anew in this order."""
+        """A store that begins with the objects of these keys as they are now, numbered anew in this order."""
         self.free_let_go(by)
+        self.look(by)
         there = self.moment(by)
         chosen = list(dict.fromkeys(keys))
         tables: Dict[Key, Table] = {}

@@ -180,8 +180,13 @@ class Program:
         for by in range(len(store.passes)):
             self._compare_pass(place, by)
 
-    def _go_on(self, place: Place, step: Any, wanted: Any, opening: Callable[[Pass], Store], keys: Keys) -> Any:
-        """Opens a store that begins with objects of another one, and looks at the numbers that these have there."""
+    def _go_on(self, place: Place, step: Any, plain: Any, opening: Callable[[Pass], Store], keys: Keys) -> Any:
+        """Opens a store that begins with objects of another one, and looks at the numbers that these have there.
+
+        `plain` opens the plain one.
+        """
+        has_news = place.plain.has_news(step.by)
+        wanted = plain()
         answer = answered(lambda: opening(place.passes[step.by]))
         kind = type(step).__name__
         if isinstance(wanted, Refused):
@@ -193,23 +198,31 @@ class Program:
         if isinstance(answer, Refused):
             raise Mismatch(f"{kind}: {answer} was answered")
         self.seen[kind] += 1
-        if place.plain.passes[step.by].known < len(place.plain.moments) - 1:
-            self.seen[f"{kind} of a moment that is past"] += 1
+        if has_news:
+            self.seen[f"{kind} by a pass that has not read the last change"] += 1
         self._have(step.name, answer, wanted)
         self._compare_names(place, answer, keys)
         return None
 
     def _succeed(self, place: Place, step: Succeed) -> Any:
-        wanted = place.plain.succeed(step.by, step.room, step.passes)
         last = place.plain.last().made
         keys = tuple((sort, number) for sort in ("matrix", "vector") for number in range(last[sort]))
-        return self._go_on(place, step, wanted, lambda pass_: pass_.succeed(step.room, step.passes), keys)
+        return self._go_on(
+            place,
+            step,
+            lambda: place.plain.succeed(step.by, step.room, step.passes),
+            lambda pass_: pass_.succeed(step.room, step.passes),
+            keys,
+        )
 
     def _branch(self, place: Place, step: Branch) -> Any:
-        wanted = place.plain.branch(step.by, step.keys, step.room, step.passes)
         names = [name_of(place.passes[step.by], *key) for key in step.keys]
         return self._go_on(
-            place, step, wanted, lambda pass_: pass_.branch(*names, room=step.room, passes=step.passes), step.keys
+            place,
+            step,
+            lambda: place.plain.branch(step.by, step.keys, step.room, step.passes),
+            lambda pass_: pass_.branch(*names, room=step.room, passes=step.passes),
+            step.keys,
         )
 
     def _compare_names(self, place: Place, store: Store, keys: Keys) -> None:
@@ -247,8 +260,6 @@ class Program:
         if answer != wanted or type(answer) is not type(wanted):
             raise Mismatch(f"{described(asked)} answered {answer}, not {wanted}")
         self.seen[f"{asked.kind} {wanted.info.name}" if isinstance(wanted, Refused) else asked.kind] += 1
-        if plain.is_chain and own.is_refused:
-            self.seen["calls at the end of a chain"] += 1
         facts = self._compare_facts(place, step.by)
         is_settled = before == (own.generation, facts.known)
         is_made = asked.on is None or refused_by_numbers(asked) is None
@@ -282,7 +293,7 @@ class Program:
             return
         place.plain.meet(step.by, step.other)
         own, other = place.passes[step.by], place.passes[step.other]
-        (own.adopt if step.adopts else own.meet)(other)
+        self._same((own.adopt if step.adopts else own.meet)(other), True, "whether the passes met")
         self.seen["adopt" if step.adopts else "meet"] += 1
         self._compare_pass(place, step.other)
 

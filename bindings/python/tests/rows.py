@@ -244,9 +244,10 @@ class BarePass:
         return moved.value
 
     def _opened(self, given: Dict[str, int], room: int, count: int, opening: str, *lists: Any) -> BareStore:
-        """A store that begins with objects of this one, where so many numbers are given."""
+        """A store that begins with objects of this one, where so many numbers are given. The pass looks first."""
         needed = ctypes.c_uint64(UNWRITTEN)
         store = BareStore(room, count, opening, self.handle, *lists, needed)
+        self._answered(store.status)
         store.given = dict(given)
         if store.status is not Info.INSUFFICIENT_SPACE and needed.value != UNWRITTEN:
             raise AssertionError(f"{opening} is answered {store.status!r}, and writes {needed}")

@@ -153,12 +153,12 @@ class Branches(RowCase):
         self.make(self.have(own.branch([], [V.number], 3), 2).main, ROOM_OF_THREE)
         # Of the history two calls were made for it.
         self.make(own, [("made", (), 2), *LOADED_STILL])
-        # No history has more than 65,536 calls, nor more than 1,048,576 times its passes.
-        self.refuse(own.branch([], [V.number], 65_535), 2)
-        self.refuse(own.branch([], [V.number], 4_095, 256), 2)
+        # No history has more than 4,194,304 calls, nor more than 268,435,456 times its passes.
+        self.refuse(own.branch([], [V.number] * 2_064_385, 65_535), 4_128_770)
+        self.refuse(own.branch([], [V.number] * 522_241, 4_095, 256), 1_044_482)
         self.make(self.have(own.branch([], [V.number], 3), 2).main, ROOM_OF_THREE)
         self.make(own, [("made", (), 0)])
-        for largest in (65_534, 1), (4_094, 256):
+        for largest in (65_536, 1), (4_096, 256):
             self.have(own.branch([], [V.number], *largest), 2).close()
 
     def test_a_result_of_a_branch_comes_back_by_one_call(self) -> None:

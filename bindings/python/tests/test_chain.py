@@ -124,6 +124,16 @@ class GoingOn(unittest.TestCase):
             self.assertEqual(counts.reduce("plus"), workers * requests)
             self.assertGreater(store.main.generation(), 4)
 
+    def test_a_pass_meets_another_one_in_its_later_generation_and_knows_all_that_it_knows(self) -> None:
+        for how in "meet", "adopt":
+            with self.subTest(how=how), open_small(8, 2) as store:
+                ahead, behind = store.passes
+                fill(ahead.vector(3), 20)
+                self.assertIs(ahead.meet(behind), True)
+                self.assertEqual((ahead.generation(), behind.generation()), (2, 0))
+                self.assertIs(getattr(behind, how)(ahead), True)
+                self.assertEqual((behind.generation(), behind.facts().known), (2, ahead.facts().known))
+
     def test_passes_meet_in_each_generation(self) -> None:
         with Store(passes=2) as store:
             p, q = store.passes
@@ -225,23 +235,47 @@ class Numbers(unittest.TestCase):
             self.assertEqual(idle.vector(1).number, workers * each)
 
 
-class Ending(unittest.TestCase):
-    def test_objects_that_no_generation_takes_end_it_and_go_on_in_a_branch(self) -> None:
-        # 256 passes: a generation takes 1,024 calls, and with those that make the objects at most 4,096.
-        with Store(passes=MOST_PASSES) as store:
-            p = store.main
-            kept = [p.vector(3) for _ in range(4096)]
-            self.assertFalse(p.is_full())
-            with self.assertRaisesRegex(OrderFull, "no next generation, and go_on"):
-                p.vector(3)
-            self.assertTrue(p.is_full())
+def left_in_next(v: Vector) -> int:
+    """How many more objects there is place for in the next generation, before it takes a call.
+
+    The vector is changed as often as this one takes calls yet.
+    """
+    p = v.pass_
+    fill(v, p.facts().room_left)
+    if not p.go_on():
+        raise AssertionError("the generation takes calls yet")
+    return p.objects_left()
+
+
+class Places(unittest.TestCase):
+    def test_many_objects_are_changed_and_freed_and_the_place_for_more_is_told(self) -> None:
+        count = 40_000
+        with Store(passes=2) as store:
+            p, q = store.passes
+            first = p.objects_left()
+            vectors = [p.vector(4) for _ in range(count)]
+            for k, v in enumerate(vectors):
+                v[3] = k
+            self.assertEqual(left_in_next(vectors[0]), first - count)
+            fill(vectors[0].using(q), 10_000)
+            self.assertEqual(vectors[0][0], 9_999)
+            self.assertEqual([v[3] for v in vectors], list(range(count)))
+            for v in vectors[1::2]:
+                v.free()
+            self.assertEqual(left_in_next(vectors[0]), first - count // 2)
+            self.assertEqual([v.using(q)[3] for v in vectors[::2]], list(range(0, count, 2)))
+            with self.assertRaises(UninitializedObject):
+                vectors[1].clear()
+
+    def test_where_there_is_no_next_generation_it_says_how_many_calls_the_objects_take(self) -> None:
+        def refuse(*arguments: Any) -> Info:
+            arguments[1]._obj.value = 7
+            return Info.INSUFFICIENT_SPACE
+
+        with Store() as store, mock.patch.object(store.main._library, "trb_chain_go_on", refuse):
             with self.assertRaises(RoomTooSmall) as caught:
-                p.go_on()
-            self.assertEqual((caught.exception.needed, len(kept[0])), (4096, 0))
-            with p.branch(kept[0], room=10) as apart:
-                there = kept[0].using(apart.main)
-                there[0] = 5
-                self.assertEqual(there.to_dict(), {0: 5})
+                store.main.go_on()
+            self.assertEqual(caught.exception.needed, 7)
 
 
 class Opening(unittest.TestCase):
@@ -266,7 +300,7 @@ class Opening(unittest.TestCase):
 
     def test_a_bounded_store_has_no_generations(self) -> None:
         with Store(room=10) as store:
-            for call in store.main.generation, store.main.go_on:
+            for call in store.main.generation, store.main.objects_left, store.main.go_on:
                 with self.assertRaisesRegex(InvalidValue, "A store with a room has no generations"):
                     call()
 
@@ -279,7 +313,7 @@ class Opening(unittest.TestCase):
         store = Store()
         p = store.main
         store.close()
-        for call in p.generation, p.go_on, p.succeed:
+        for call in p.generation, p.objects_left, p.go_on, p.succeed:
             with self.assertRaises(StoreClosed):
                 call()
 

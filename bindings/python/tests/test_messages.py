@@ -5,6 +5,7 @@ from __future__ import annotations
 import pickle
 import unittest
 from typing import Any, Callable, List, Tuple
+from unittest import mock
 
 from support import StoreCase
 from trowelheath import (
@@ -18,7 +19,6 @@ from trowelheath import (
     OrderFull,
     OutputNotEmpty,
     Refusal,
-    RoomTooSmall,
     Store,
     UninitializedObject,
     Vector,
@@ -184,9 +184,6 @@ class Messages(StoreCase):
                 ("a room of 65,537 and 1 passes were asked for", lambda: self.p.succeed(65_537)),
             ],
         )
-        with self.assertRaises(RoomTooSmall) as caught:
-            self.p.succeed(65_535)
-        self.assertEqual((caught.exception.needed, caught.exception.detail), (2, "a room of 65,535 was asked for"))
 
     def test_objects_that_were_freed(self) -> None:
         a, gone = self.p.matrix(2, 2), self.p.matrix(2, 2)
@@ -225,8 +222,28 @@ class Messages(StoreCase):
                     (detail, v.clear),
                 ],
             )
+            with self.assertRaises(OrderFull) as caught:
+                v.clear()
             hint = "Open its successor, or a store without a room, which goes on by itself. Reads go on."
-            self.assertEqual(OrderFull.hint, hint)
+            self.assertEqual(str(caught.exception), f"OrderFull: {detail}. {hint}")
+
+    def test_a_store_without_an_end_that_is_full(self) -> None:
+        # It takes millions of objects to have one: what is said where the library answers so.
+        with Store() as store:
+            v = store.main.vector(3)
+            full = mock.Mock(return_value=Info.ORDER_FULL)
+            detail = "the store has no place for one more object, or no next generation"
+            hint = "Where objects_left() of the pass is 0, free objects; else go_on() raises why. Reads go on."
+            for name, call in (
+                ("trb_vector_new", lambda: store.main.vector(3)),
+                ("trb_vector_dup", v.dup),
+                ("trb_vector_clear", v.clear),
+                ("trb_vector_ewise_add", lambda: v.ewise_add(v, "plus", out=v)),
+            ):
+                with self.subTest(name=name), mock.patch.object(store.main._library, name, full):
+                    with self.assertRaises(OrderFull) as caught:
+                        call()
+                    self.assertEqual(str(caught.exception), f"OrderFull: {detail}. {hint}")
 
     def test_what_is_said_makes_no_call(self) -> None:
         a, v = self.p.matrix(3, 4), self.p.vector(5)

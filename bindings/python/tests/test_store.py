@@ -3,6 +3,8 @@
 from __future__ import annotations
 
 import unittest
+from typing import Any
+from unittest import mock
 
 from support import StoreCase
 from trowelheath import (
@@ -10,6 +12,7 @@ from trowelheath import (
     MOST_ROOM,
     MOST_SEATS,
     Facts,
+    Info,
     InvalidValue,
     Matrix,
     OrderFull,
@@ -297,6 +300,20 @@ class Branching(StoreCase):
             other.using(store.main)
         self.assertEqual(store.main.vector(1).number, 1)
 
+    def test_it_begins_with_what_others_made_though_its_pass_has_not_read(self) -> None:
+        for room in 100, None:
+            with self.subTest(room=room), Store(room=room, passes=2) as store:
+                opens, enters = store.passes
+                a, v = enters.matrix(19, 19), enters.vector(19)
+                for first in 0, 9:
+                    for k in range(first, first + 9):
+                        a[k, k + 1] = 1
+                        v[k] = 1
+                    with opens.branch(a.using(opens), v, room=10) as branch:
+                        there = a.using(branch.main)
+                        self.assertEqual((len(there), len(v.using(branch.main))), (first + 9, first + 9))
+                        self.assertEqual(there.to_dict(), a.to_dict())
+
     def test_a_result_comes_back_by_one_call(self) -> None:
         v, out = self.p.vector(3), self.p.vector(5)
         v[2] = 5
@@ -315,8 +332,8 @@ class Branching(StoreCase):
 
     def test_what_it_begins_with(self) -> None:
         v = self.p.vector(3)
-        with self.assertRaisesRegex(RoomTooSmall, "beside the 1 calls"):
-            self.p.branch(v, room=65_536)
+        largest = self.branch(v, room=MOST_ROOM).main.facts()
+        self.assertEqual((largest.known, largest.room_left), (1, MOST_ROOM))
         self.assertEqual(self.branch(room=1).main.facts().room_left, 1)
         self.assertEqual(self.branch(v, v).main.facts().known, 1)
         other = Store(room=2)
@@ -372,13 +389,41 @@ class Succession(StoreCase):
         v[0] = 5
         self.assertEqual((v.to_dict(), v.using(store.main).to_dict()), ({0: 5}, {}))
 
+    def test_it_begins_with_what_others_made_though_its_pass_has_not_read(self) -> None:
+        with Store(room=100, passes=2) as store:
+            opens, enters = store.passes
+            a = enters.matrix(19, 19)
+            for first in 0, 9:
+                for k in range(first, first + 9):
+                    a[k, k + 1] = 1
+                with opens.succeed(room=10) as successor:
+                    made = successor.main.matrix(19, 19)
+                    made[2, 2] = 99
+                    there = a.using(successor.main)
+                    self.assertEqual((there.number, made.number), (0, 1))
+                    self.assertEqual(there.to_dict(), a.to_dict())
+                    self.assertEqual((len(there), made.to_dict()), (first + 9, {(2, 2): 99}))
+
     def test_room_that_no_store_has_is_refused_with_what_is_needed(self) -> None:
         v = self.p.vector(3)
         v[0] = 5
-        with self.assertRaisesRegex(RoomTooSmall, "beside the 2 calls") as caught:
-            self.p.succeed(MOST_ROOM - 1)
-        self.assertEqual(caught.exception.needed, 2)
-        self.assertEqual(self.succeed(1).main.facts().room_left, 1)
+        # A million calls that make objects take long: that the library refuses so many is shown by itself.
+        def refuse(*arguments: Any) -> Info:
+            needed = arguments[-3]
+            needed._obj.value = 1_044_482
+            return Info.INSUFFICIENT_SPACE
+
+        for name, call in (
+            ("trb_succeed", lambda: self.p.succeed(7)),
+            ("trb_branch", lambda: self.p.branch(v, room=7)),
+        ):
+            with self.subTest(name=name), mock.patch.object(self.p._library, name, refuse):
+                with self.assertRaisesRegex(RoomTooSmall, "beside the 1,044,482 calls") as caught:
+                    call()
+                told = caught.exception.needed, caught.exception.detail
+                self.assertEqual(told, (1_044_482, "a room of 7 was asked for"))
+        for room in 1, MOST_ROOM:
+            self.assertEqual(self.succeed(room).main.facts().room_left, room)
 
     def test_ranges_are_refused_outside(self) -> None:
         for room, passes in (0, 1), (1, 0), (MOST_ROOM + 1, 1), (1, MOST_PASSES + 1), (4097, 256):

@@ -163,20 +163,18 @@ class Room(RowCase):
     def test_a_room_that_no_history_has_makes_no_store_and_a_small_one_does(self) -> None:
         old = self.begin(ROOM)
         self.make(old.main, LOADED)
-        # No history has more than 65,536 calls, nor more than 1,048,576 times its passes.
+        # No history has more than 268,435,456 calls times its passes. Here one call makes each of so many objects.
+        many = self.have(old.main.branch([], [EMPTY.number] * 1_044_482, 1), 1_044_482)
         for way in WAYS:
             with self.subTest(way=way):
+                self.refuse(getattr(many.main, way)(4_095, 256), 1_044_482)
                 go_on = getattr(old.main, way)
-                self.refuse(go_on(65_532), NEEDED)
-                self.refuse(go_on(4_092, 256), NEEDED)
-                for largest in (65_531, 1), (4_091, 256):
+                for largest in (65_536, 1), (4_096, 256):
                     self.have(go_on(*largest), NEEDED).close()
                 self.make(self.have(go_on(1), NEEDED).main, JUST)
         with self.subTest(way="a branch of what is there"):
             there = [A.number], [EMPTY.number]
-            self.refuse(old.main.branch(*there, 65_534), NEEDED_LIVE)
-            self.refuse(old.main.branch(*there, 4_094, 256), NEEDED_LIVE)
-            for largest in (65_533, 1), (4_093, 256):
+            for largest in (65_536, 1), (4_096, 256):
                 self.have(old.main.branch(*there, *largest), NEEDED_LIVE).close()
             self.make(self.have(old.main.branch(*there, 1), NEEDED_LIVE).main, JUST_LIVE)
         self.make(old.main, LOADED_STILL)

@@ -3,6 +3,7 @@
 from __future__ import annotations
 
 from typing import Any, Callable, List, Optional, Tuple
+from unittest import mock
 
 import plain
 import plain_store
@@ -81,16 +82,13 @@ def _numbered_anew(self: Moment, sort: str, table: Table) -> Any:
     return _with_new(self, sort, table)
 
 
-def _of_now(open_: Callable[..., Any]) -> Callable[..., Any]:
-    """A store that goes on sees what its pass does not know."""
+def _of_before(open_: Callable[..., Any]) -> Callable[..., Any]:
+    """A store that goes on begins with what its pass knew before it looked."""
 
     def opened(self: PlainStore, by: int, *arguments: Any) -> Any:
-        own = self.passes[by]
-        known, own.known = own.known, len(self.moments) - 1
-        try:
+        there = self.moment(by)
+        with mock.patch.object(self, "moment", lambda _: there):
             return open_(self, by, *arguments)
-        finally:
-            own.known = known
 
     return opened
 
@@ -108,8 +106,7 @@ def _without_freed(self: PlainStore, by: int, room: int, passes: int) -> Any:
     """A successor gives numbers of freed objects up."""
     if self.is_chain:
         return _succeed(self, by, room, passes)
-    there = self.moment(by)
-    return self.branch(by, sorted(there.tables), room, passes)
+    return self.branch(by, sorted(self.last().tables), room, passes)
 
 
 def _keeping_statuses(self: PlainStore, own: Any) -> None:
@@ -178,8 +175,8 @@ WRONG: List[Tuple[str, Any, str, Any]] = [
     ("indices of a build are looked at before its object", plain_store, "_refusal_of_build", _indices_first),
     ("a full store refuses for its room alone", PlainStore, "call_here", _full_first),
     ("a freed number is given again", Moment, "with_new", _numbered_anew),
-    ("a branch sees what its pass does not know", PlainStore, "branch", _of_now(PlainStore.branch)),
-    ("a successor sees what its pass does not know", PlainStore, "succeed", _of_now(PlainStore.succeed)),
+    ("a branch begins with what its pass has read", PlainStore, "branch", _of_before(PlainStore.branch)),
+    ("a successor begins with what its pass has read", PlainStore, "succeed", _of_before(PlainStore.succeed)),
     ("a branch begins with all objects", PlainStore, "branch", _sharing),
     ("a successor gives up numbers of freed objects", PlainStore, "succeed", _without_freed),
     ("statuses outlive a generation", PlainStore, "move", _keeping_statuses),

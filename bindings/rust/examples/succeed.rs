@@ -11,22 +11,18 @@ const PASSES: usize = 2;
 
 /// The passes of a successor of a full store, and the graph there.
 fn go_on(passes: &mut [Pass], graph: Matrix<u64>) -> Result<(Vec<Pass>, Matrix<u64>), Error> {
-    // What the other pass knows counts too. Then nothing is left out.
     let (own, others) = passes.split_first_mut().expect("a store has a pass");
-    for other in others.iter_mut() {
-        own.meet(other)?;
-    }
-    assert!(own.is_full()?);
     let edges = own.nvals(graph)?;
+    assert!(own.is_full()?);
 
-    // The most room beside the calls that make the objects is refused, and tells how many these are.
-    match own.succeed(Store::MOST_ROOM, PASSES) {
-        Err(Error::RoomTooSmall { needed }) => {
-            println!("full with {edges} edges; a successor begins with {needed} changes")
-        }
-        other => panic!("no store has so much room: {other:?}"),
-    }
+    // What makes the objects takes none of its room.
     let mut next = own.succeed(ROOM, PASSES)?;
+    let facts = next[0].facts()?;
+    println!(
+        "full with {edges} edges; a successor begins with {} changes",
+        facts.known
+    );
+    assert_eq!(facts.room_left, ROOM);
 
     // The new passes see the same graph, but no object has a status yet. The old store goes on to answer.
     let there = next[1].inherited(graph)?;

@@ -12,6 +12,11 @@ use crate::sys;
 /// the next generation, and each other one follows at its next call. All calls are made as with any [`Store`], but that a chain has no
 /// successor.
 ///
+/// A generation begins with one or two changes for each object. These, and the room beside them, are at most 4,194,304, and times the passes
+/// at most 268,435,456: so a chain of up to 64 passes takes some 2,090,000 objects. Where one more could leave no room for the next
+/// generation, a call that makes an object is refused by [`Error::OrderFull`], and calls that free, clear or change objects go on.
+/// [`Pass::objects_left`] tells how many more there is place for.
+///
 /// A generation's memory is given back when the last pass has left it. So let an idle pass make a read now and then, or drop it:
 /// [`Pass::seat`] has it anew.
 ///
@@ -42,8 +47,8 @@ impl Chain {
         Chain::open_with(default_room(passes), passes)
     }
 
-    /// The same with generations of so much room, from 1 to [`Store::MOST_ROOM`]. Each has it beside the calls that make the objects: both
-    /// together are at most [`Store::MOST_ROOM`], and times the passes at most [`Store::MOST_SEATS`].
+    /// The same with generations of so much room, from 1 to [`Store::MOST_ROOM`], and times the passes at most [`Store::MOST_SEATS`]. Each has
+    /// it beside the calls that make the objects.
     ///
     /// # Errors
     ///
@@ -88,10 +93,25 @@ impl Pass {
         Ok(generation)
     }
 
+    /// How many more objects the chain has place for, beside all that there can be where the generation ends in which the pass sits: those
+    /// that it began with or made, and one for each change that it takes yet. Where it is 0, a call that makes an object is refused by
+    /// [`Error::OrderFull`]. A change that makes none raises it by one, as far as it is not 0. A new generation lowers it: what was freed
+    /// counts no more, and one object for each change of its own does. The pass learns nothing by this.
+    ///
+    /// # Errors
+    ///
+    /// - [`Error::InvalidValue`]: the pass is of no chain.
+    pub fn objects_left(&mut self) -> Result<u64, Error> {
+        let mut left = 0;
+        // SAFETY: the pass is borrowed mutably, so this call alone has it, and the place of the answer is a local variable.
+        done(unsafe { sys::trb_chain_objects_left(&mut self.raw, &mut left) })?;
+        Ok(left)
+    }
+
     /// Goes to a later generation of the chain, where its own is used up and the pass knows every change of that, and makes the next one where
     /// there is none; whether it moved. It does not where others make the next one: then try again. Each call does so by itself: this is for
-    /// who was answered [`Error::OrderFull`] and asks why, and for who makes the next generation ahead of the call that needs it. Where it is
-    /// refused, the pass sits where it sat, and may try again.
+    /// who was answered [`Error::OrderFull`] and asks why, where [`objects_left`](Pass::objects_left) is not 0, and for who makes the next
+    /// generation ahead of the call that needs it. Where it is refused, the pass sits where it sat, and may try again.
     ///
     /// # Errors
     ///
@@ -109,9 +129,9 @@ impl Pass {
         Ok(went.unwrap_or(false))
     }
 
-    /// The pass of the chain with this number anew, which was dropped: that of a thread that has ended. None where it is not to be had: there
-    /// is none of this number, or it was not dropped, or it was dropped in a generation that others have left, and they have not left the
-    /// next one.
+    /// The pass of the chain with this number anew, which was dropped: that of a thread that has ended. It sits where this pass sits, or in a
+    /// later generation. None where it is not to be had: there is none of this number, or it was not dropped, or it was dropped in a generation
+    /// that others have left, and they have not left the next one.
     ///
     /// # Errors
     ///

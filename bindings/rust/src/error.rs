@@ -29,7 +29,8 @@ pub enum Error {
     /// An index in the list of a build is not below the dimension; nothing of the list was stored (`GrB_INDEX_OUT_OF_BOUNDS`).
     IndexOutOfBounds,
     /// The room of the store is used up, and the call was refused for nothing else. Reads go on. A chain refuses a call so where it has no
-    /// next generation: [`Pass::go_on`](crate::Pass::go_on) tells why.
+    /// next generation: [`Pass::go_on`](crate::Pass::go_on) tells why; or the call makes an object, and
+    /// [`Pass::objects_left`](crate::Pass::objects_left) tells that there is no place for one more.
     OrderFull,
     /// Memory was refused (`GrB_OUT_OF_MEMORY`).
     OutOfMemory,
@@ -137,7 +138,7 @@ impl Error {
             Error::OutputNotEmpty => "Clear the object, or build a new one.",
             Error::IndexOutOfBounds => "Give a list whose indices are below the dimensions.",
             Error::OrderFull => {
-                "Open its successor, or a chain, which goes on by itself; of a chain ask go_on why. Reads go on."
+                "A store with a room: open its successor. A chain: free objects, where objects_left is 0; else ask go_on. Reads go on."
             }
             Error::OutOfMemory => "Nothing has changed: free memory, and make the call again.",
             Error::Panic => "The call did nothing: make it again.",
@@ -261,6 +262,15 @@ mod tests {
         assert_eq!(found(1, 7), Ok(None));
         assert_eq!(info_of(0), Info::Success);
         assert_eq!(info_of(1), Info::NoValue);
+    }
+
+    #[test]
+    fn a_room_that_is_too_small_is_told_with_what_is_needed() {
+        let refusal = Error::of(-103).of_room(7);
+        assert_eq!(refusal, Error::RoomTooSmall { needed: 7 });
+        assert_eq!(refusal.status(), Some(-103));
+        assert!(refusal.to_string().ends_with("They are 7."), "{refusal}");
+        assert_eq!(Error::OutOfMemory.of_room(7), Error::OutOfMemory);
     }
 
     #[test]

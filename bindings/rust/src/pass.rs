@@ -2,7 +2,7 @@
 
 use crate::chosen::{Before, Chosen};
 use crate::descriptor::Descriptor;
-use crate::error::{done, Error};
+use crate::error::{done, found, Error};
 use crate::facts::Facts;
 use crate::object::Object;
 use crate::refusal::Refused;
@@ -26,7 +26,8 @@ use std::sync::Arc;
 ///
 /// - [`Error::OrderFull`]: the room is used up. A store that is full stays so, and reads go on. Go on in its successor, which
 ///   [`succeed`](Pass::succeed) opens; or use a [`Chain`](crate::Chain) from the start, which goes on by itself, and refuses a change so only
-///   where it has no next generation: [`go_on`](Pass::go_on) tells why.
+///   where it has no next generation, and [`go_on`](Pass::go_on) tells why; or where the change makes an object, and
+///   [`objects_left`](Pass::objects_left) tells that there is no place for one more.
 /// - [`Error::OutOfMemory`]: memory was refused to the call's record. Nothing has changed.
 /// - [`Error::Panic`]: the call's record could not be kept, or an earlier one of another pass was not shown. Make the call again; if it
 ///   comes again, stop using the store.
@@ -128,21 +129,24 @@ impl Pass {
         }
     }
 
-    /// Lets the pass learn all that the other knows, without a call. Each call looks for news by itself, so this is for a moment that suits
-    /// you, as the end of a phase.
+    /// Lets the pass learn all that the other knows, without a call; whether it knows all of that then. Each call looks for news by itself, so
+    /// this is for a moment that suits you, as the end of a phase. Of one store it is always true. In a chain the pass moves on first, where
+    /// the other sits in a later generation, and false says that it could not move there now: then try again.
     ///
     /// # Errors
     ///
     /// - [`Error::ForeignPass`]: the passes are of two stores.
     /// - [`Error::Panic`]: the record of a call was not shown. Ask again.
-    pub fn meet(&mut self, other: &mut Pass) -> Result<(), Error> {
+    pub fn meet(&mut self, other: &mut Pass) -> Result<bool, Error> {
         self.check_pass(other)?;
         // SAFETY: both passes are borrowed mutably, so they are two, and this call alone has them.
-        done(unsafe { sys::trb_meet(&mut self.raw, &mut other.raw) })
+        let status = unsafe { sys::trb_meet(&mut self.raw, &mut other.raw) };
+        Ok(found(status, ())?.is_some())
     }
 
     /// Lets the pass learn all that the other knows, and go on from what the other has evaluated: its next answer does the work that is left.
-    /// Both share the objects until one of them changes one. Where memory is refused for that, the pass evaluates for itself.
+    /// Both share the objects until one of them changes one. Where memory is refused for that, the pass evaluates for itself. It tells whether
+    /// the pass knows all that the other knows, as [`meet`](Pass::meet); in a chain the two share work where both sit in one generation then.
     ///
     /// # Errors
     ///
@@ -156,10 +160,11 @@ impl Pass {
     /// # Ok(())
     /// # }
     /// ```
-    pub fn adopt(&mut self, other: &mut Pass) -> Result<(), Error> {
+    pub fn adopt(&mut self, other: &mut Pass) -> Result<bool, Error> {
         self.check_pass(other)?;
         // SAFETY: both passes are borrowed mutably, so they are two, and this call alone has them.
-        done(unsafe { sys::trb_adopt(&mut self.raw, &mut other.raw) })
+        let status = unsafe { sys::trb_adopt(&mut self.raw, &mut other.raw) };
+        Ok(found(status, ())?.is_some())
     }
 
     fn check_pass(&self, other: &Pass) -> Result<(), Error> {
@@ -250,7 +255,8 @@ impl Pass {
     }
 
     /// Whether the room is used up and the pass knows every change. Then no pass of the store will ever know another one. It learns nothing
-    /// by this: let it [`meet`](Pass::meet) the others before. Of a chain, whether the pass was refused the next generation.
+    /// by this: let it [`meet`](Pass::meet) the others before. Of a chain, whether the pass was refused a next generation, or place for an
+    /// object, in the generation in which it sits.
     ///
     /// # Errors
     ///
@@ -262,16 +268,17 @@ impl Pass {
         Ok(is_full)
     }
 
-    /// Opens the successor of the store, and hands out its passes: a store of its own that begins with what this pass knows. Room and passes are
-    /// as of [`Store::open`].
+    /// Opens the successor of the store, and hands out its passes: a store of its own that begins with this one as it is at a moment of the
+    /// call. This pass looks for news first, as in each call. Room and passes are as of [`Store::open`].
     ///
-    /// Every object goes over, with its number, and [`inherited`](Pass::inherited) gives its handle there. A freed number stays freed, and the
-    /// next object is given the next number. The history begins with the calls that make these objects, one or two for each number that
-    /// was ever given, and has the room beside them. The new passes know them, and share what is evaluated of them. No object has a status,
-    /// and nothing is settled. This store stays as it is, and ends with its last pass; objects are shared until one of the two changes one.
+    /// Every object goes over, whoever made it, with its number, and [`inherited`](Pass::inherited) gives its handle there. A freed number stays
+    /// freed, and the next object is given the next number, so none is given anew. The history begins with the calls that make these objects,
+    /// one or two for each number that was ever given, and has the room beside them. The new passes know them, and share what is evaluated of
+    /// them. No object has a status, and nothing is settled. This store stays as it is, and ends with its last pass; objects are shared until
+    /// one of the two changes one.
     ///
-    /// Where [`is_full`](Pass::is_full) holds, nothing is lost. Called earlier it makes a store beside this one: what is changed here later is
-    /// not there. Of some objects alone [`branch`](Pass::branch) makes one.
+    /// Where the room is used up, as it is after [`Error::OrderFull`], nothing is lost. Called earlier it makes a store beside this one: what is
+    /// changed here later is not there. Of some objects alone [`branch`](Pass::branch) makes one.
     ///
     /// # Errors
     ///
@@ -283,12 +290,7 @@ impl Pass {
     /// ```no_run
     /// # use trowelheath::{Error, Matrix, Pass};
     /// # fn go_on(mut passes: Vec<Pass>, graph: Matrix<u64>) -> Result<(), Error> {
-    /// let (own, others) = passes.split_first_mut().expect("a store has a pass");
-    /// for other in others {
-    ///     own.meet(other)?;
-    /// }
-    /// assert!(own.is_full()?);
-    /// let next = own.succeed(4096, 8)?;
+    /// let next = passes[0].succeed(4096, 8)?;
     /// let graph = next[0].inherited(graph)?;
     /// # Ok(())
     /// # }
@@ -313,14 +315,14 @@ impl Pass {
         })
     }
 
-    /// Opens a branch, and hands out its passes: a store of its own that begins with these objects, all of them as this pass knows them, at
-    /// one moment. Passes are as of [`Store::open`]. `room` is how many calls that change it the branch takes; those that make its objects
-    /// take none of it.
+    /// Opens a branch, and hands out its passes: a store of its own that begins with these objects, all of them as they are at one moment of
+    /// the call. This pass looks for news first, as in each call. Passes are as of [`Store::open`]. `room` is how many calls that change it the
+    /// branch takes; those that make its objects take none of it.
     ///
     /// [`inherited`](Pass::inherited) gives the handle of an object there. An object that was freed is not there. What is made or changed in
     /// either store is not seen in the other, and a branch's objects take no room here: so an analysis of many calls reads one moment, and
     /// [`build_from`](Pass::build_from) brings a result back by one call. Objects are shared until one of the two stores changes one; no entry
-    /// is copied, and of this store only what was chosen is evaluated. A read or a wait of this pass learns the newest changes first.
+    /// is copied, and of this store only what was chosen is evaluated.
     ///
     /// # Errors
     ///

@@ -89,6 +89,7 @@ extern "C" {
     pub fn trb_is_full(pass: *mut TrbPass, out: *mut bool) -> i32;
     pub fn trb_chain_open(store: u64, room: u32, passes: *mut TrbPass, npasses: usize) -> i32;
     pub fn trb_chain_generation(pass: *mut TrbPass, out: *mut u64) -> i32;
+    pub fn trb_chain_objects_left(pass: *mut TrbPass, out: *mut u64) -> i32;
     pub fn trb_chain_go_on(pass: *mut TrbPass, needed: *mut u64, moved: *mut bool) -> i32;
     pub fn trb_chain_seat(pass: *mut TrbPass, number: u32, into: *mut TrbPass) -> i32;
     pub fn trb_free(pass: *mut TrbPass);

@@ -1,5 +1,5 @@
 -- believed: What a handle's branch is, and the build of an object of another store (own).
-use Rattle.std.specs.Prelude.{◌≡◌, ◌<◌, ◌^◌, ℕ, ℤ, true, List, map, length, Option, Some, None, Result, Ok, Err, IfOk}
+use Rattle.std.specs.Prelude.{◌≡◌, ◌<◌, ◌^◌, ◌⊎◌, ℕ, ℤ, true, List, map, length, Option, Some, None, Result, Ok, Err, IfOk}
 use Rattle.grb_core.specs.declared.refusal.Refusal.{Refusal}
 use Rattle.grb_sparse.specs.Matrix.{SparseMatrixView}
 use Rattle.grb_sparse.specs.Vector.{SparseVectorView}
@@ -13,14 +13,15 @@ use Rattle.grb_rebuild.specs.Rebuilt.{monoid_for}
 use Rattle.grb_context.specs.Known.{known}
 use Rattle.grb_context.specs.Snapshot.{IsSnapshot}
 use Rattle.grb_context.specs.StoredIn.{IsMatrixOf, IsVectorOf}
-use Rattle.grb_codes.specs.Codes.{refusal_code, uninitialized_object}
+use Rattle.grb_codes.specs.Codes.{out_of_memory, refusal_code, success, uninitialized_object}
 use Rattle.grb_codes.specs.Named.{matrices_named, vectors_named}
 use Rattle.grb_c.specs.Handles.{Makes, are_none}
 use Rattle.grb_c.specs.Opening.{IsWithin}
+use Rattle.grb_generations.specs.Branched.{LooksFirst}
 use Rattle.grb_generations.specs.Seated.{Seated}
 use Rattle.grb_c.specs.Bounded.{InStore}
 use Rattle.grb_c.specs.Kinds.{HandsOutBy, IsMemberMatrix, IsMemberVector, store_chosen}
-use Rattle.grb_c.specs.Sessions.{Goes, Opened}
+use Rattle.grb_c.specs.Sessions.{Goes, KnowsNow, LooksIn, Opened}
 use Rattle.grb_c.specs.Succession.{GoesOn}
 use Rattle.grb_c.specs.declared.handle.TrbPass.{TrbPass}
 
@@ -34,6 +35,16 @@ pub record IsBranchAsked (room : ℕ) (hs : List TrbPass) (matrices vectors : Li
   pub within : IsWithin room (length hs)
   pub none : are_none hs ≡ true
   pub few : AreFew matrices vectors
+
+-- a handle looks before it branches, by its pass or its member; or memory is refused before, and it is as it was
+abbrev pub LooksOrLacks : ℤ → Opened → Opened → Type 0
+LooksOrLacks code old new = Goes LooksIn LooksFirst old new ⊎ ((code ≡ out_of_memory) × (new ≡ old))
+
+-- and where there is a branch, it knows all that the history held at one step in between; or there is no pass
+abbrev pub LooksToBranch : ℤ → Option Opened → Option Opened → Type 0
+LooksToBranch code None new = new ≡ None
+LooksToBranch code (Some old) (Some new) = LooksOrLacks code old new × (code ≡ success → KnowsNow old new)
+LooksToBranch code (Some old) None = ⊥
 
 -- handles go on from the store of the objects of these numbers that a handle knows; or there is no pass
 abbrev pub GoesApartFrom : ℕ → ℕ → Option Opened → List ℕ → List ℕ → ℤ → ℕ → ℕ → List TrbPass → Type 0

@@ -1,9 +1,13 @@
 -- believed: What the exports of chains do (own).
 use Rattle.std.specs.Prelude.{◌≡◌, ◌⊎◌, ℕ, ℤ, ◌<◌, ◌≤◌, Bool, true, false, List, length, slice_get, slice_index_or, Option, Some, None, Result, Ok, Err}
+use mathlib.Core.List.{IsPrefix}
+use Rattle.grb_order.specs.Order.{room_of}
+use Rattle.grb_context.specs.Known.{known}
 use Rattle.grb_generations.specs.Chain.{Chain}
 use Rattle.grb_generations.specs.Reasons.{IsNoGeneration, TakesSeat}
 use Rattle.grb_generations.specs.declared.reason.NoGeneration.{NoGeneration}
 use Rattle.grb_generations.specs.declared.reason.NoGeneration.TheVariants as none
+use Rattle.grb_generations.specs.Reserve.{HasPlace}
 use Rattle.grb_generations.specs.Seated.{IsAtEnd, Moves, Seated, ShareTheFirst, Stays}
 use Rattle.grb_codes.specs.Codes.{insufficient_space, invalid_value, no_value, order_full, out_of_memory, panic, success, uninitialized_object}
 use Rattle.grb_c.specs.declared.session.Kind.{Kind}
@@ -36,10 +40,21 @@ abbrev pub TellsGeneration : Option Opened → ℤ → ℕ → ℕ → Type 0
 TellsGeneration (Some s) code before after = TellsGenerationOf s.kind code before after
 TellsGeneration None code before after = (code ≡ uninitialized_object) × (after ≡ before)
 
--- the status where there is no next generation: where another member makes it, that is no refusal
+-- how many more objects there is place for, of a member: none just where its next generation may have no room for one more; a bounded store
+-- tells none
+abbrev pub TellsObjectsLeftOf : Kind → ℤ → ℕ → ℕ → Type 0
+TellsObjectsLeftOf (kind.Member m) code before after = (code ≡ success) × (0 < after → HasPlace m.chain (room_of m.pass.order) (known m.pass)) × (after ≡ 0 → HasPlace m.chain (room_of m.pass.order) (known m.pass) → ⊥)
+TellsObjectsLeftOf (kind.Bounded p) code before after = (code ≡ invalid_value) × (after ≡ before)
+
+abbrev pub TellsObjectsLeft : Option Opened → ℤ → ℕ → ℕ → Type 0
+TellsObjectsLeft (Some s) code before after = TellsObjectsLeftOf s.kind code before after
+TellsObjectsLeft None code before after = (code ≡ uninitialized_object) × (after ≡ before)
+
+-- the status where there is no next generation, or no place for an object more: where another member makes it, that is no refusal
 abbrev pub no_generation_code : NoGeneration → ℤ
 no_generation_code (none.Unmade object) = out_of_memory
 no_generation_code (none.RoomTooSmall needed) = insufficient_space
+no_generation_code none.Crowded = insufficient_space
 no_generation_code none.NumbersSpent = order_full
 no_generation_code none.OutOfMemory = out_of_memory
 no_generation_code none.Panic = panic
@@ -80,10 +95,15 @@ GoesOnBy None None code before after was is = (code ≡ uninitialized_object) ×
 GoesOnBy (Some old) None code before after was is = ⊥
 GoesOnBy None (Some new) code before after was is = ⊥
 
+-- a member takes the seat of this number in the chain of the one who asks, in no earlier generation: its page begins with all of that one's
+pub record SitsBeside (m : Seated) (number : ℕ) (n : Seated) : Type 0 where
+  pub seat : TakesSeat m.chain number n
+  pub newest : IsPrefix m.page.told n.page.told
+
 -- the member of this number of the chain is in the handle; or there is none to be had, or memory was refused, and the handle has none
 abbrev pub SeatsMember : Seated → ℕ → ℕ → Option Opened → ℤ → Type 0
 SeatsMember m store number after code =
-    ((code ≡ success) × (n : Seated) × TakesSeat m.chain number n × (after ≡ Some (record { kind = kind.Member n; store = store })))
+    ((code ≡ success) × (n : Seated) × SitsBeside m number n × (after ≡ Some (record { kind = kind.Member n; store = store })))
     ⊎ (((code ≡ no_value) ⊎ (code ≡ out_of_memory)) × (after ≡ None))
 
 abbrev pub SeatsKind : Kind → ℕ → ℕ → Option Opened → ℤ → Type 0

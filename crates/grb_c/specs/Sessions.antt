@@ -1,21 +1,24 @@
 -- believed: What a contract sees of a handle, and what one export does with it (own).
-use Rattle.std.specs.Prelude.{◌≡◌, ◌≤◌, length, ℕ, ℤ, ◌==◌, Bool, true, false, Option, Some, None, is_some, Result, Ok, Err}
+use Rattle.std.specs.Prelude.{◌≡◌, ◌<◌, ◌≤◌, length, ℕ, ℤ, ◌==◌, Bool, true, false, Option, Some, None, is_some, Result, Ok, Err}
 use Rattle.grb_core.specs.declared.refusal.Refusal.{Refusal}
 use Rattle.grb_core.specs.declared.refusal.Refusal.TheVariants.{UninitializedObject}
 use Rattle.grb_call.specs.declared.call.Call.{Call}
 use Rattle.grb_call.specs.declared.ids.Object.{Object}
 use Rattle.grb_order.specs.Order.{room_of}
 use Rattle.grb_context.specs.Known.{Knowing, known, none_made}
+use Rattle.grb_context.specs.Looking.{IsNow, Looks}
 use Rattle.grb_context.specs.Explains.{Answer}
 use Rattle.grb_context.specs.Answered.{Answered}
 use Rattle.grb_context.specs.Meeting.{Met}
-use Rattle.grb_generations.specs.Meeting.{MeetsHere}
-use Rattle.grb_generations.specs.Seated.{Calls, Comes, Seated, Stays}
+use Rattle.grb_generations.specs.Meeting.{Meets as MembersMeet, MeetsNow}
+use Rattle.grb_generations.specs.Seated.{Calls, Seated, Stays}
+use Rattle.grb_generations.specs.declared.work.Meeting.{Meeting}
+use Rattle.grb_generations.specs.declared.work.Meeting.TheVariants as meeting
 use Rattle.grb_c.specs.Bounded.{InStore}
 use Rattle.grb_c.specs.Kinds.{IsEither, info_at, pass_at}
 use Rattle.grb_c.specs.declared.session.Kind.{Kind}
 use Rattle.grb_c.specs.declared.session.Kind.TheVariants as kind
-use Rattle.grb_codes.specs.Codes.{TellsInfo, done_code, invalid_value, met_code, success, uninitialized_object}
+use Rattle.grb_codes.specs.Codes.{TellsInfo, done_code, invalid_value, met_code, no_value, refusal_code, success, uninitialized_object}
 
 -- who makes the calls, and the number of the store or of the chain
 pub record Opened : Type 0 where
@@ -74,17 +77,25 @@ pub record MetBy (old new other : InStore) (code : ℤ) : Type 0 where
   pub met : Met old.context old.pass new.pass other.pass answer
   pub code_is : code ≡ met_code answer
 
--- a meeting of two members of one chain: in one generation it is one of their passes; else the member comes as far as it can, with no
--- call of its own entered
-pub record MeetsMember (old new other : Seated) (r : Result (Unit {0}) Refusal) : Type 0 where
-  pub together : old.generation ≡ other.generation → MeetsHere old new other r
-  pub apart : (old.generation ≡ other.generation → ⊥) → (r ≡ Ok (record {})) × Comes old new
+-- the status of a meeting of two members: where the other sits in a generation to which the one could not move now, it has not met it
+abbrev pub meeting_code : Result Meeting Refusal → ℤ
+meeting_code (Ok meeting.Here) = success
+meeting_code (Ok meeting.Ahead) = success
+meeting_code (Ok meeting.Behind) = no_value
+meeting_code (Err r) = refusal_code r
+
+-- a meeting of two members of one chain, with all that a chain promises of it: where both sit in one generation they meet there, and where
+-- the one sits in a later generation nothing of it changes
+pub record MeetsMember (old new other : Seated) (r : Result Meeting Refusal) : Type 0 where
+  pub meets : MembersMeet old new other r
+  pub together : old.generation ≡ other.generation → MeetsNow old new other r
+  pub ahead : other.generation < old.generation → (r ≡ Ok meeting.Ahead) × (new ≡ old)
 
 -- the same with its status
 pub record MembersMet (old new other : Seated) (code : ℤ) : Type 0 where
-  pub answer : Result (Unit {0}) Refusal
+  pub answer : Result Meeting Refusal
   pub meets : MeetsMember old new other answer
-  pub code_is : code ≡ met_code answer
+  pub code_is : code ≡ meeting_code answer
 
 -- a meeting of two of one sort; a pass of a bounded store and a member of a chain do not meet, and nothing changes
 abbrev pub KindsMeet : Kind → Kind → Kind → ℤ → Type 0
@@ -112,11 +123,18 @@ Meets (Some old) (Some new) (Some other) code = MeetsWhere (old.store == other.s
 abbrev pub IsSamePass : InStore → InStore → Type 0
 IsSamePass old new = new ≡ record old { pass = record old.pass { made = new.pass.made } }
 
--- the handle is as it was, but for how many calls its pass made to answer
-abbrev pub IsSameButMade : Option Opened → Option Opened → Type 0
-IsSameButMade None new = new ≡ None
-IsSameButMade (Some old) (Some new) = Goes IsSamePass Stays old new
-IsSameButMade (Some old) None = ⊥
+-- a pass of a bounded store looks: it learnt the newest words, as a call does that only reads, and entered nothing
+pub record LooksIn (old new : InStore) : Type 0 where
+  pub context : new.context ≡ old.context
+  pub looks : Looks (room_of old.context.order) old.pass new.pass
+
+-- all that it knows then is what the history held at one step in between
+abbrev pub IsNowIn : InStore → InStore → Type 0
+IsNowIn old new = IsNow (room_of old.context.order) old.pass new.pass
+
+-- the same of who makes the calls of a handle: of a member, its call says what it knows
+abbrev pub KnowsNow : Opened → Opened → Type 0
+KnowsNow old new = IsEither IsNowIn (λ o n. Unit {0}) old.kind new.kind
 
 -- a pass evaluates what it knows, and tells a number that is none above that of the calls that it knows; or there is none
 abbrev pub Prepares : Option Opened → Option Opened → ℤ → ℕ → ℕ → Type 0

@@ -12,7 +12,7 @@ use Rattle.grb_c.specs.Opening.{AreHandedOut}
 use Rattle.grb_c.specs.Kinds.{is_member}
 use Rattle.grb_c.specs.declared.session.Kind.{Kind}
 use Rattle.grb_c.specs.declared.session.Kind.TheVariants as kind
-use Rattle.grb_c.specs.Sessions.{Opened}
+use Rattle.grb_c.specs.Sessions.{Goes, KnowsNow, LooksIn, Opened}
 
 -- the status where there is no successor
 abbrev pub no_successor_code : NoSuccessor → ℤ
@@ -52,6 +52,13 @@ GoesOnFromKind store room passes (kind.Member m) code before after hs = (code �
 abbrev pub GoesOnFrom : ℕ → ℕ → ℕ → Option Opened → ℤ → ℕ → ℕ → List (Option Opened) → Type 0
 GoesOnFrom store room passes (Some s) code before after hs = GoesOnFromKind store room passes s.kind code before after hs
 GoesOnFrom store room passes None code before after hs = (code ≡ uninitialized_object) × (after ≡ before)
+
+-- A handle looks before it goes on in a successor, by the pass of a bounded store; a member is refused, and nothing of it changes. Where
+-- there is a successor, it knows all that the history held at one step in between; or there is no pass
+abbrev pub LooksToSucceed : ℤ → Option Opened → Option Opened → Type 0
+LooksToSucceed code None new = new ≡ None
+LooksToSucceed code (Some old) (Some new) = Goes LooksIn (λ o n. n ≡ o) old new × (code ≡ success → KnowsNow old new)
+LooksToSucceed code (Some old) None = ⊥
 
 -- the handle has a member of a chain
 abbrev pub IsLinked : Option Opened → Type 0

@@ -1,5 +1,5 @@
 //! The pass of a bounded store, with its context.
-ghost use Rattle.std.specs.Prelude.{◌≡◌, ◌≤◌, ◌<◌, ◌^◌, All, IfErr, IfOk, length};
+ghost use Rattle.std.specs.Prelude.{◌≡◌, ◌≤◌, ◌<◌, ◌^◌, All, IfErr, IfOk, OnOk, length};
 ghost use Rattle.grb_order.specs.Order.{room_of};
 ghost use Rattle.grb_call.specs.declared.call.Call.TheVariants as Call;
 ghost use Rattle.grb_call.specs.declared.wait_mode.WaitMode.TheVariants as WaitMode;
@@ -7,6 +7,7 @@ ghost use Rattle.grb_call.specs.History.{store_of};
 ghost use Rattle.grb_context.specs.Chosen.{IsNoSuccessor, chosen_store, room_beside};
 ghost use Rattle.grb_context.specs.Known.{IsPassOf, known, none_made};
 ghost use Rattle.grb_context.specs.Answered.{Answered};
+ghost use Rattle.grb_context.specs.Looking.{IsNow, Looks};
 ghost use Rattle.grb_context.specs.Meeting.{Met};
 ghost use Rattle.grb_context.specs.Snapshot.{IsSnapshot};
 ghost use Rattle.grb_context.specs.StoredIn.{IsMatrixOf, IsVectorOf};
@@ -100,7 +101,7 @@ impl Bounded {
         self.pass.release();
     }
 
-    /// A context that goes on where the pass ends, and its passes, as [`Context::succeed`] has them.
+    /// A context that goes on from the store as it is now, and its passes, as [`Context::succeed_now`] has them.
     pub(crate) fn succeed(
         &mut self,
         alloc: Global,
@@ -109,16 +110,18 @@ impl Bounded {
     ) -> Result<(Context, Vec<Pass>), NoSuccessor>
         requires within { IsWithin room passes }
         ensures context { self.new.context ≡ self.old.context }
-        ensures same { self.new.pass ≡ record self.old.pass { made = self.new.pass.made } }
-        ensures room { IfOk result (λ opened. room_of opened.0.order ≡ room_beside (store_of (known self.old.pass)) room) }
-        ensures begun { IfOk result (λ opened. AreBegun opened.0 (store_of (known self.old.pass)) passes opened.1.items) }
+        ensures looks { Looks (room_of self.old.context.order) self.old.pass self.new.pass }
+        ensures now { OnOk result (IsNow (room_of self.old.context.order) self.old.pass self.new.pass) }
+        ensures room { IfOk result (λ opened. room_of opened.0.order ≡ room_beside (store_of (known self.new.pass)) room) }
+        ensures begun { IfOk result (λ opened. AreBegun opened.0 (store_of (known self.new.pass)) passes opened.1.items) }
         ensures ours { IfOk result (λ opened. All (IsPassOf opened.0) opened.1.items) }
-        ensures refused { IfErr result (IsNoSuccessor room passes (store_of (known self.old.pass))) }
+        ensures refused { IfErr result (IsNoSuccessor room passes (store_of (known self.new.pass))) }
     {
-        self.context.succeed(alloc, &mut self.pass, room, passes)
+        self.context
+            .succeed_now(alloc, &mut self.pass, room, passes)
     }
 
-    /// A context that begins with these objects as the pass knows them, and its passes, as [`Context::branch`] has them.
+    /// A context that begins with these objects as they are now, and its passes, as [`Context::branch_now`] has them.
     pub(crate) fn branch(
         &mut self,
         alloc: Global,
@@ -131,14 +134,15 @@ impl Bounded {
         requires matrices { length matrices.now < 2 ^ 32 }
         requires vectors { length vectors.now < 2 ^ 32 }
         ensures context { self.new.context ≡ self.old.context }
-        ensures same { self.new.pass ≡ record self.old.pass { made = self.new.pass.made } }
-        ensures room { IfOk result (λ opened. room_of opened.0.order ≡ room_beside (chosen_store (store_of (known self.old.pass)) matrices.now vectors.now) room) }
-        ensures begun { IfOk result (λ opened. AreBegun opened.0 (chosen_store (store_of (known self.old.pass)) matrices.now vectors.now) passes opened.1.items) }
+        ensures looks { Looks (room_of self.old.context.order) self.old.pass self.new.pass }
+        ensures now { OnOk result (IsNow (room_of self.old.context.order) self.old.pass self.new.pass) }
+        ensures room { IfOk result (λ opened. room_of opened.0.order ≡ room_beside (chosen_store (store_of (known self.new.pass)) matrices.now vectors.now) room) }
+        ensures begun { IfOk result (λ opened. AreBegun opened.0 (chosen_store (store_of (known self.new.pass)) matrices.now vectors.now) passes opened.1.items) }
         ensures ours { IfOk result (λ opened. All (IsPassOf opened.0) opened.1.items) }
-        ensures refused { IfErr result (IsNoSuccessor room passes (chosen_store (store_of (known self.old.pass)) matrices.now vectors.now)) }
+        ensures refused { IfErr result (IsNoSuccessor room passes (chosen_store (store_of (known self.new.pass)) matrices.now vectors.now)) }
     {
         self.context
-            .branch(alloc, &mut self.pass, matrices, vectors, room, passes)
+            .branch_now(alloc, &mut self.pass, matrices, vectors, room, passes)
     }
 
     /// The matrix as it stands at the point of a wait for it, as [`Context::snapshot_matrix`] hands it out.

@@ -1,12 +1,12 @@
 //! A store of its own that begins with some objects of another one.
 ghost use Rattle.std.specs.Prelude.{◌≡◌, ◌<◌, ◌^◌, false, true, length, map};
-ghost use Rattle.grb_c.specs.Branching.{AreFew, GoesApartFrom, IsBranchAsked};
-ghost use Rattle.grb_codes.specs.Codes.{invalid_value};
+ghost use Rattle.grb_c.specs.Branching.{AreFew, GoesApartFrom, IsBranchAsked, LooksOrLacks, LooksToBranch};
+ghost use Rattle.grb_codes.specs.Codes.{invalid_value, success};
 ghost use Rattle.grb_codes.specs.Named.{matrices_named, vectors_named};
 ghost use Rattle.grb_c.specs.Opening.{IsWithin};
-ghost use Rattle.grb_generations.specs.Seated.{Stays};
+ghost use Rattle.grb_generations.specs.Branched.{LooksFirst};
 ghost use Rattle.grb_c.specs.Kinds.{store_chosen};
-ghost use Rattle.grb_c.specs.Sessions.{Goes, IsSameButMade, IsSamePass};
+ghost use Rattle.grb_c.specs.Sessions.{Goes, KnowsNow, LooksIn};
 ghost use Rattle.grb_c.specs.Succession.{GoesOn};
 
 use crate::handle::TrbPass;
@@ -26,7 +26,7 @@ fn are_few(matrices: &[u32], vectors: &[u32]) -> bool
     matrices.len() <= u32::MAX as usize && vectors.len() <= u32::MAX as usize
 }
 
-/// Opens a branch of these objects that the pass of the session knows, and hands its passes out.
+/// Opens a branch of these objects as they are now, and hands its passes out.
 fn go_apart(
     alloc: Global,
     store: u64,
@@ -40,8 +40,9 @@ fn go_apart(
     requires within { IsWithin room (length passes.old) }
     requires matrices { length matrices.now < 2 ^ 32 }
     requires vectors { length vectors.now < 2 ^ 32 }
-    ensures same { Goes IsSamePass Stays session.old session.new }
-    ensures apart { GoesOn store room (length passes.old) (store_chosen session.old.kind matrices.now vectors.now) result needed.old needed.new (map (λ h. h.raw.session) passes.new) }
+    ensures looks { Goes LooksIn LooksFirst session.old session.new }
+    ensures now { result ≡ success → KnowsNow session.old session.new }
+    ensures apart { GoesOn store room (length passes.old) (store_chosen session.new.kind matrices.now vectors.now) result needed.old needed.new (map (λ h. h.raw.session) passes.new) }
     ensures count { length passes.new ≡ length passes.old }
 {
     match session.branch(alloc, matrices, vectors, room, passes.len() as u32) {
@@ -64,8 +65,9 @@ fn go_apart_by_numbers(
     requires within { IsWithin room (length passes.old) }
     requires matrices { length matrices.now < 2 ^ 32 }
     requires vectors { length vectors.now < 2 ^ 32 }
-    ensures same { Goes IsSamePass Stays session.old session.new }
-    ensures apart { GoesOn store room (length passes.old) (store_chosen session.old.kind (matrices_named matrices.now) (vectors_named vectors.now)) result needed.old needed.new (map (λ h. h.raw.session) passes.new) }
+    ensures looks { LooksOrLacks result session.old session.new }
+    ensures now { result ≡ success → KnowsNow session.old session.new }
+    ensures apart { GoesOn store room (length passes.old) (store_chosen session.new.kind (matrices_named matrices.now) (vectors_named vectors.now)) result needed.old needed.new (map (λ h. h.raw.session) passes.new) }
     ensures count { length passes.new ≡ length passes.old }
 {
     let Ok(matrices) = matrices_named(alloc, matrices) else {
@@ -79,10 +81,11 @@ fn go_apart_by_numbers(
     )
 }
 
-/// A new context that begins with the objects of these numbers, just as the pass knows them, and a pass of it in each handle, none of which
-/// has one before. The matrix at place k of its array has the number k there, and so has the vector at place k of its own; one that is not
-/// there is not there. Its history takes `room` calls beside those that make these objects. The number is that of the new store alone,
-/// among those that are open. Where no history has room for all, tells how many calls make the objects.
+/// A new context that begins with the objects of these numbers as they are now, and a pass of it in each handle, none of which has one
+/// before: the pass first learns the newest words, as a call does that only reads, and a member moves as in a call. The matrix at place k of
+/// its array has the number k there, and so has the vector at place k of its own; one that is not there is not there. Its history takes
+/// `room` calls beside those that make these objects. The number is that of the new store alone, among those that are open. Where no history
+/// has room for all, tells how many calls make the objects. `Panic` also where the record of an earlier call is not shown yet.
 #[unsafe(no_mangle)]
 pub extern "C" fn trb_branch(
     alloc: Global,
@@ -94,10 +97,10 @@ pub extern "C" fn trb_branch(
     needed: &mut u64,
     passes: &mut [TrbPass],
 ) -> i32
-    ensures same { IsSameButMade pass.old.raw.session pass.new.raw.session }
-    ensures apart { IsBranchAsked room passes.old matrices.now vectors.now → GoesApartFrom store room pass.old.raw.session matrices.now vectors.now result needed.old needed.new passes.new }
+    ensures looks { IsBranchAsked room passes.old matrices.now vectors.now → LooksToBranch result pass.old.raw.session pass.new.raw.session }
+    ensures apart { IsBranchAsked room passes.old matrices.now vectors.now → GoesApartFrom store room pass.new.raw.session matrices.now vectors.now result needed.old needed.new passes.new }
     ensures count { length passes.new ≡ length passes.old }
-    ensures outside { (IsBranchAsked room passes.old matrices.now vectors.now → ⊥) → (result ≡ invalid_value) × (needed.new ≡ needed.old) × (passes.new ≡ passes.old) }
+    ensures outside { (IsBranchAsked room passes.old matrices.now vectors.now → ⊥) → (result ≡ invalid_value) × (needed.new ≡ needed.old) × (passes.new ≡ passes.old) × (pass.new.raw.session ≡ pass.old.raw.session) }
 {
     if !is_within(room, passes.len()) || !are_none(passes) || !are_few(matrices, vectors) {
         return INVALID_VALUE;

@@ -152,6 +152,7 @@ fn put_calls(why: NoGeneration, needed: &mut u64) -> i32
             *needed = calls;
             INSUFFICIENT_SPACE
         }
+        NoGeneration::Crowded => INSUFFICIENT_SPACE,
         NoGeneration::NumbersSpent => ORDER_FULL,
         NoGeneration::Panic => PANIC,
         NoGeneration::Busy => NO_VALUE,
@@ -171,19 +172,20 @@ fn go_on(member: &mut Member, needed: &mut u64, moved: &mut bool) -> i32
     }
 }
 
-/// A member of this number of the chain, which was dropped, anew into a handle that has no pass.
+/// A member of this number of the chain, which was dropped, anew into a handle that has no pass; it sits in no earlier generation than this
+/// one.
 fn seat_anew(alloc: Global, store: u64, member: &Member, number: u32, into: &mut TrbPass) -> i32
     requires none { into.old.raw.session ≡ None }
     ensures { SeatsMember member.now store number into.new.raw.session result }
 {
-    match Generations::member(member.generations(), number) {
+    match member.seat(number) {
         Some(again) => seat(alloc, store, again, into),
         None => NO_VALUE,
     }
 }
 
-/// Gives the member of this number of the chain anew, in a handle that has no pass before: that of a thread whose own was freed. Tells that
-/// there is no value where it is not to be had.
+/// Gives the member of this number of the chain anew, in a handle that has no pass before: that of a thread whose own was freed. It sits in
+/// no earlier generation than the member that asks. Tells that there is no value where it is not to be had.
 #[unsafe(no_mangle)]
 pub extern "C" fn trb_chain_seat(
     alloc: Global,

@@ -13,6 +13,7 @@ mod objects;
 mod open;
 mod operations;
 mod parts;
+mod places;
 mod raw;
 mod session;
 mod succession;

@@ -165,7 +165,8 @@ fn learn(alloc: Global, pass: &mut TrbPass, other: &mut TrbPass, adopts: bool) -
     code
 }
 
-/// Lets the pass learn all that the other knows. Two stores' passes are refused.
+/// Lets the pass learn all that the other knows. A member of a chain moves on first, where the other sits in a later generation; no value
+/// where it could not now, and a later call tries again. Two stores' passes are refused.
 #[unsafe(no_mangle)]
 pub extern "C" fn trb_meet(alloc: Global, pass: &mut TrbPass, other: &mut TrbPass) -> i32
     requires apart { AreApart pass.old.raw.session other.old.raw.session }
@@ -175,7 +176,8 @@ pub extern "C" fn trb_meet(alloc: Global, pass: &mut TrbPass, other: &mut TrbPas
     learn(alloc, pass, other, false)
 }
 
-/// Lets the pass learn all that the other knows, and go on from what that has evaluated. Two stores' passes are refused.
+/// Lets the pass learn all that the other knows, as `trb_meet`, and go on from what that has evaluated, of a member where both sit in one
+/// generation then. Two stores' passes are refused.
 #[unsafe(no_mangle)]
 pub extern "C" fn trb_adopt(alloc: Global, pass: &mut TrbPass, other: &mut TrbPass) -> i32
     requires apart { AreApart pass.old.raw.session other.old.raw.session }

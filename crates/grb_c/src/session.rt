@@ -1,5 +1,5 @@
 //! What a handle has: the pass of a bounded store, or a member of a chain of stores.
-ghost use Rattle.std.specs.Prelude.{◌≡◌, ◌≤◌, ◌<◌, ◌^◌, All, IfErr, IfOk, length};
+ghost use Rattle.std.specs.Prelude.{◌≡◌, ◌≤◌, ◌<◌, ◌^◌, All, IfErr, IfOk, OnOk, length};
 ghost use Rattle.std.specs.Result.{result_map_both};
 ghost use Rattle.grb_call.specs.declared.call.Call.TheVariants as Call;
 ghost use Rattle.grb_call.specs.declared.wait_mode.WaitMode.TheVariants as WaitMode;
@@ -8,18 +8,19 @@ ghost use Rattle.grb_context.specs.Chosen.{IsNoSuccessor, room_beside};
 ghost use Rattle.grb_context.specs.Known.{IsPassOf, known};
 ghost use Rattle.grb_context.specs.Succeeding.{AreBegun};
 ghost use Rattle.grb_context.specs.StoredIn.{IsMatrixOf, IsVectorOf};
+ghost use Rattle.grb_generations.specs.Branched.{LooksFirst};
 ghost use Rattle.grb_generations.specs.Seated.{Stays};
 ghost use Rattle.grb_c.specs.Branching.{HandsOut};
 ghost use Rattle.grb_c.specs.Kinds.{HandsOutBy, IsMemberMatrix, IsMemberVector, info_at, store_chosen};
 ghost use Rattle.grb_c.specs.Opening.{IsWithin};
-ghost use Rattle.grb_c.specs.Sessions.{AreOfOne, Goes, IsSamePass, KindsMeet, MadeBy, MeetsMember, is_full_at, pass_of, released};
+ghost use Rattle.grb_c.specs.Sessions.{AreOfOne, Goes, IsSamePass, KindsMeet, KnowsNow, LooksIn, MadeBy, MeetsMember, is_full_at, meeting_code, pass_of, released};
 
 use crate::bounded::Bounded;
 use grb_call::{Call, MatrixId, Object, Reply, VectorId};
-use grb_codes::{INVALID_VALUE, met_code};
+use grb_codes::{INVALID_VALUE, NO_VALUE, SUCCESS, met_code, refusal_code};
 use grb_context::{Context, NoSuccessor, Pass};
 use grb_core::{Info, Refusal};
-use grb_generations::Member;
+use grb_generations::{Meeting, Member};
 use grb_sparse::{SparseMatrix, SparseVector};
 use std::alloc::Global;
 use std::marker::Model;
@@ -50,6 +51,20 @@ impl Model for Session {
     ghost view = { λ s. record { kind = s.kind; store = s.store } };
 }
 
+/// The member's snapshot of this matrix.
+fn member_matrix(member: &mut Member, a: MatrixId) -> Result<Arc<SparseMatrix>, Refusal>
+    ensures { HandsOutBy (Call.WaitMatrix a WaitMode.Complete) (λ n m. IsMemberMatrix n a m) (result_map_both (λ matrix. matrix.value) (λ refusal. refusal) result) member.old member.new }
+{
+    member.snapshot_matrix(a)
+}
+
+/// The member's snapshot of this vector.
+fn member_vector(member: &mut Member, v: VectorId) -> Result<Arc<SparseVector>, Refusal>
+    ensures { HandsOutBy (Call.WaitVector v WaitMode.Complete) (λ n x. IsMemberVector n v x) (result_map_both (λ vector. vector.value) (λ refusal. refusal) result) member.old member.new }
+{
+    member.snapshot_vector(v)
+}
+
 impl Session {
     /// A session of this store or chain.
     pub fn new(kind: Kind, store: u64) -> Session
@@ -68,8 +83,9 @@ impl Session {
         }
     }
 
-    /// Learns what the other knows, and where it adopts, goes on from what that has evaluated; tells the status. A pass of a bounded store
-    /// and a member of a chain do not meet.
+    /// Learns what the other knows, and where it adopts, goes on from what that has evaluated; tells the status. A member moves on first,
+    /// where the other sits in a later generation, and tells where it could not. A pass of a bounded store and a member of a chain do not
+    /// meet.
     pub(crate) fn learn(&mut self, other: &mut Session, adopts: bool) -> i32
         requires one { AreOfOne self.old.kind other.old.kind }
         ensures store { self.new.store ≡ self.old.store }
@@ -83,7 +99,7 @@ impl Session {
             },
             Kind::Member(own) => match &mut other.kind {
                 Kind::Bounded(_) => INVALID_VALUE,
-                Kind::Member(theirs) => met_code(learn_of(own, theirs, adopts)),
+                Kind::Member(theirs) => meeting_code(learn_of(own, theirs, adopts)),
             },
         }
     }
@@ -128,8 +144,8 @@ impl Session {
         }
     }
 
-    /// A context that begins with these objects as the pass knows them, and its passes, as
-    /// [`Context::branch`](grb_context::Context::branch) and [`Member::branch`] have them.
+    /// A context that begins with these objects as they are now, and its passes, as
+    /// [`Context::branch_now`](grb_context::Context::branch_now) and [`Member::branch_now`] have them.
     pub fn branch(
         &mut self,
         alloc: Global,
@@ -141,15 +157,16 @@ impl Session {
         requires within { IsWithin room passes }
         requires matrices { length matrices.now < 2 ^ 32 }
         requires vectors { length vectors.now < 2 ^ 32 }
-        ensures same { Goes IsSamePass Stays self.old self.new }
-        ensures room { IfOk result (λ opened. room_of opened.0.order ≡ room_beside (store_chosen self.old.kind matrices.now vectors.now) room) }
-        ensures begun { IfOk result (λ opened. AreBegun opened.0 (store_chosen self.old.kind matrices.now vectors.now) passes opened.1.items) }
+        ensures looks { Goes LooksIn LooksFirst self.old self.new }
+        ensures now { OnOk result (KnowsNow self.old self.new) }
+        ensures room { IfOk result (λ opened. room_of opened.0.order ≡ room_beside (store_chosen self.new.kind matrices.now vectors.now) room) }
+        ensures begun { IfOk result (λ opened. AreBegun opened.0 (store_chosen self.new.kind matrices.now vectors.now) passes opened.1.items) }
         ensures ours { IfOk result (λ opened. All (IsPassOf opened.0) opened.1.items) }
-        ensures refused { IfErr result (IsNoSuccessor room passes (store_chosen self.old.kind matrices.now vectors.now)) }
+        ensures refused { IfErr result (IsNoSuccessor room passes (store_chosen self.new.kind matrices.now vectors.now)) }
     {
         match &mut self.kind {
             Kind::Bounded(own) => own.branch(alloc, matrices, vectors, room, passes),
-            Kind::Member(own) => own.branch(alloc, matrices, vectors, room, passes),
+            Kind::Member(own) => own.branch_now(alloc, matrices, vectors, room, passes),
         }
     }
 
@@ -160,7 +177,7 @@ impl Session {
     {
         match &mut self.kind {
             Kind::Bounded(own) => own.snapshot_matrix(a),
-            Kind::Member(own) => own.snapshot_matrix(a),
+            Kind::Member(own) => member_matrix(own, a),
         }
     }
 
@@ -171,7 +188,7 @@ impl Session {
     {
         match &mut self.kind {
             Kind::Bounded(own) => own.snapshot_vector(v),
-            Kind::Member(own) => own.snapshot_vector(v),
+            Kind::Member(own) => member_vector(own, v),
         }
     }
 
@@ -214,8 +231,19 @@ impl Session {
     }
 }
 
+/// The status of a meeting of two members.
+fn meeting_code(answer: Result<Meeting, Refusal>) -> i32
+    ensures { result ≡ meeting_code answer }
+{
+    match answer {
+        Ok(Meeting::Here | Meeting::Ahead) => SUCCESS,
+        Ok(Meeting::Behind) => NO_VALUE,
+        Err(refusal) => refusal_code(refusal),
+    }
+}
+
 /// The same of two members of one chain.
-fn learn_of(own: &mut Member, theirs: &mut Member, adopts: bool) -> Result<(), Refusal>
+fn learn_of(own: &mut Member, theirs: &mut Member, adopts: bool) -> Result<Meeting, Refusal>
     requires chain { own.old.chain ≡ theirs.old.chain }
     ensures met { MeetsMember own.old own.new theirs.old result }
     ensures theirs { theirs.new ≡ theirs.old }

@@ -61,6 +61,7 @@ _PARAMETERS: Dict[str, Tuple[Any, ...]] = {
     "trb_is_full": (_PASS, _BOOL_OUT),
     "trb_chain_open": (_U64, _U32, _PASS, ctypes.c_size_t),
     "trb_chain_generation": (_PASS, _U64_OUT),
+    "trb_chain_objects_left": (_PASS, _U64_OUT),
     "trb_chain_go_on": (_PASS, _U64_OUT, _BOOL_OUT),
     "trb_free": (_PASS,),
     "trb_meet": (_PASS, _PASS),

@@ -54,9 +54,9 @@ def of_one(code: int, item: Object) -> Optional[str]:
 
 
 def of_full(room: Optional[int]) -> str:
-    """Of a store whose room is used up, or of one without an end that has no next generation."""
+    """Of a store whose room is used up, or of one without an end that has no place for what the call takes."""
     if room is None:
-        return "the store has no next generation, and go_on() of the pass raises why"
+        return "the store has no place for one more object, or no next generation"
     return f"the room of the store, {room:,} calls, is used up"
 
 

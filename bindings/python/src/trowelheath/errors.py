@@ -13,7 +13,7 @@ other refusals that apply, the first of this list is raised:
 - `OutputNotEmpty`: a build found an entry in its object.
 - `IndexOutOfBounds`, an `IndexError`: an index in a build's list is not below the dimension.
 - `OrderFull`: the room of the store is used up, and the call was refused for nothing else; or a store without an end
-  has no next generation.
+  has no next generation, or no place for the object that the call makes.
 - `RoomTooSmall`, a `ValueError`: no store has so much room beside the calls that make the objects.
 - `OutOfMemory`, a `MemoryError`: memory was refused.
 - `Panic`, a `RuntimeError`: the record of a call was not taken or not shown.
@@ -157,12 +157,14 @@ class IndexOutOfBounds(Refusal, IndexError):
 class OrderFull(Refusal):
     """The room of the store is used up, and the call was refused for nothing else. Reads go on.
 
-    A store without an end refuses a call so where it has no next generation: `Pass.go_on` raises why.
+    A store without an end refuses a call so where it has no next generation, and `Pass.go_on` raises why; or where the
+    call makes an object, and `Pass.objects_left` tells that there is no place for one more. The hint says so.
     """
 
     code = Info.ORDER_FULL
     name = "OrderFull"
     hint = "Open its successor, or a store without a room, which goes on by itself. Reads go on."
+    hint_of_chain = "Where objects_left() of the pass is 0, free objects; else go_on() raises why. Reads go on."
 
 
 class OutOfMemory(Refusal, MemoryError):
@@ -193,8 +195,8 @@ class RoomTooSmall(Refusal, ValueError):
     """No successor, branch or next generation has so much room beside the calls that make the objects.
 
     Attributes:
-        needed: how many calls make the objects. The room and these are at most 65,536, and times the passes at most
-            1,048,576.
+        needed: how many calls make the objects. The room and these are at most 4,194,304, and times the passes at most
+            268,435,456.
     """
 
     code = Info.INSUFFICIENT_SPACE
@@ -236,9 +238,16 @@ _KINDS: Dict[int, Type[Refusal]] = {
 }
 
 
-def refusal_of(code: int, invalid: Optional[str] = None, detail: Optional[str] = None) -> Exception:
-    """The exception for a status below 0. `invalid` is the hint of an `InvalidValue`, and `detail` says more."""
+def refusal_of(
+    code: int, invalid: Optional[str] = None, detail: Optional[str] = None, is_chain: bool = False
+) -> Exception:
+    """The exception for a status below 0. `invalid` is the hint of an `InvalidValue`, and `detail` says more.
+
+    `is_chain` tells whether a store without an end refused the call.
+    """
     kind = _KINDS.get(code)
     if kind is None:
         return RuntimeError(f"the library answered the status {code}, which this package does not know")
+    if kind is OrderFull and is_chain:
+        return OrderFull(OrderFull.hint_of_chain, detail)
     return kind(invalid if kind is InvalidValue else None, detail)

@@ -378,30 +378,39 @@ class Pass:
         """
         return Temporary(self)
 
-    def meet(self, other: Pass) -> None:
+    def meet(self, other: Pass) -> bool:
         """Learns all that another pass of the store knows.
 
         Each call looks for news by itself, so this is for passes that hand work over without a call. A pass that
-        meets itself learns nothing.
+        meets itself learns nothing. In a store without an end the pass first goes to a later generation, where the
+        other one sits in one.
+
+        Returns:
+            Whether the pass knows all that the other one knows. It is False only where that sits in a later generation
+            of a store without an end, to which the pass could not go now: meet it again.
 
         Raises:
             InvalidValue: the other pass is of another store.
             Panic: the record of a call is not shown yet; the next call or meeting asks for it again.
             StoreClosed: one of the two stores is closed.
         """
-        self._meet("trb_meet", other)
+        return self._meet("trb_meet", other)
 
-    def adopt(self, other: Pass) -> None:
+    def adopt(self, other: Pass) -> bool:
         """Learns all that another pass of the store knows, and goes on from what that has evaluated.
 
-        Both then share that work. Have one pass load data and prepare them, and let those that serve them adopt it.
+        Both then share that work; in a store without an end, where they sit in one generation then. Have one pass load
+        data and prepare them, and let those that serve them adopt it.
+
+        Returns:
+            Whether the pass knows all that the other one knows, as of `meet`.
 
         Raises:
             InvalidValue: the other pass is of another store.
             Panic: the record of a call is not shown yet; the next call or meeting asks for it again.
             StoreClosed: one of the two stores is closed.
         """
-        self._meet("trb_adopt", other)
+        return self._meet("trb_adopt", other)
 
     def prepare(self) -> int:
         """Evaluates the calls that the pass knows, where that is dear, so that others may adopt that work.
@@ -476,7 +485,8 @@ class Pass:
         """Whether the room is used up and the pass knows every change.
 
         Then no pass of the store will ever know another one. It looks for no news: let it `meet` the others before.
-        Of a store without an end, whether the pass was refused the next generation.
+        Of a store without an end, whether the pass was refused a next generation, or place for an object, in the
+        generation in which it sits.
 
         Raises:
             StoreClosed: the store is closed.
@@ -496,11 +506,28 @@ class Pass:
         self._call("trb_chain_generation", ctypes.byref(out), invalid=_BOUNDED)
         return out.value
 
+    def objects_left(self) -> int:
+        """How many more objects a store without an end has place for. It looks for no news.
+
+        It is beside all that there can be where the generation ends in which the pass sits: those that it began with or
+        made, and one for each call that it takes yet. Where it is 0, a call that makes an object raises `OrderFull`,
+        and calls that free, clear or change objects go on. A call that changes the store and makes none raises it by
+        one, as far as it is not 0. A new generation lowers it: what was freed counts no more, and one object for each
+        call of its own does.
+
+        Raises:
+            InvalidValue: the store has a room, and so no generations.
+            StoreClosed: the store is closed.
+        """
+        out = ctypes.c_uint64()
+        self._call("trb_chain_objects_left", ctypes.byref(out), invalid=_BOUNDED)
+        return out.value
+
     def go_on(self) -> bool:
         """Goes to a later generation of a store without an end, where the pass knows all of a full one.
 
         Where there is none, it makes the next one. Each call does so by itself: this is for who was refused by
-        `OrderFull`, and asks why. Where it is refused, the pass may try again.
+        `OrderFull`, and asks why, where `objects_left` is not 0. Where it is refused, the pass may try again.
 
         Returns:
             Whether it moved.
@@ -521,16 +548,17 @@ class Pass:
         return moved.value
 
     def succeed(self, room: SupportsIndex = 4096, passes: SupportsIndex = 1, helpers: SupportsIndex = 0) -> Store:
-        """Opens the successor of the store: a store of its own that begins with what this pass knows.
+        """Opens the successor of the store: a store of its own that begins with this one as it is now.
 
-        Every object goes over, with its number: `A.using(pass_)` gives it by a pass of the successor. A freed number
-        stays freed, and the next object is given the next number. The history begins with the calls that make these
-        objects, one or two for each number that was ever given. The new passes know them, and share what is
-        evaluated of them. No object has a `last_info`, and nothing is settled. This store stays as it is,
-        and is closed by its owner; objects are shared until one of the two stores changes one.
+        The pass looks for news first, as in each call. Every object goes over, whoever made it, with its number:
+        `A.using(pass_)` gives it by a pass of the successor. A freed number stays freed, and the next object is given
+        the next number, so none is given anew. The history begins with the calls that make these objects, one or two
+        for each number that was ever given. The new passes know them, and share what is evaluated of them. No object
+        has a `last_info`, and nothing is settled. This store stays as it is, and is closed by its owner; objects are
+        shared until one of the two stores changes one.
 
-        Where `is_full` holds, nothing is lost. Called earlier it makes a branch: what is changed here later is not
-        there.
+        Where the room is used up, as it is after `OrderFull`, nothing is lost. Called earlier it makes a branch: what
+        is changed here later is not there.
 
         Args:
             room: how many calls that change it the successor takes, as of `Store`, next to those that make its objects.
@@ -570,12 +598,13 @@ class Pass:
     def branch(
         self, *objects: Object, room: SupportsIndex = 4096, passes: SupportsIndex = 1, helpers: SupportsIndex = 0
     ) -> Store:
-        """Opens a branch: a store of its own that begins with these objects, as this pass knows them, at one moment.
+        """Opens a branch: a store of its own that begins with these objects, as they all are at one moment of the call.
 
+        The pass looks for news first, as in each call, so another one may have made or changed them just now.
         `A.using(pass_)` gives an object by a pass of the branch. What is made or changed in either store is not seen in
         the other, and a branch's objects take no room here: so an analysis of many calls reads one moment, and
-        `build_from` brings a result back by one call. Objects are shared until one of the two stores changes one,
-        no entry is copied, and nothing else is evaluated. A read or a wait of the pass learns the newest changes first.
+        `build_from` brings a result back by one call. Objects are shared until one of the two stores changes one, no
+        entry is copied, and nothing else is evaluated.
 
         Args:
             objects: matrices and vectors of this store. One that was freed is not there in the branch.
@@ -708,7 +737,8 @@ class Pass:
         """Raises the exception for a status below 0."""
         # A pass that is ended is refused by the library too.
         self._require_open()
-        raise refusal_of(status, invalid, None if tell is None else tell(status))
+        detail = None if tell is None else tell(status)
+        raise refusal_of(status, invalid, detail, is_chain=self._core.room is None)
 
     def _free_gone(self) -> None:
         """Frees the objects that were let go, as far as there is room for it."""
@@ -725,17 +755,17 @@ class Pass:
                 let_go.put_back(*gone)
                 return
 
-    def _meet(self, name: str, other: Pass) -> None:
-        """Makes a call of the library that gives two passes."""
+    def _meet(self, name: str, other: Pass) -> bool:
+        """Makes a call of the library that gives two passes. Whether they met, or this one sits in a later generation."""
         if not isinstance(other, Pass):
             raise TypeError(f"a pass meets a pass, not a {type(other).__name__}")
         if other is self:
             self._require_open()
-            return
+            return True
         first, second = self._in_turn(other)
         with first._lock, second._lock:
             other._require_open()
-            self._call(name, other._handle, invalid="Give two passes of one store.")
+            return self._call(name, other._handle, invalid="Give two passes of one store.") != Info.NO_VALUE
 
     def _in_turn(self, other: Pass) -> List[Pass]:
         """The two passes, in the one order in which all threads take their locks: so none waits for another in a ring."""
@@ -861,7 +891,8 @@ class Store:
             room: how many calls that change it the store takes in its whole life, from 1 to 65,536. Reads take
                 none. It does not grow. Where it is left out, the store has no end: it is a chain of generations, each
                 with room for 4,096 calls beside those that make its objects, and for less with more than 64 passes.
-                Where one is full, the next goes on by itself with all objects.
+                Where one is full, the next goes on by itself with all objects. Up to 64 passes share some 2,090,000
+                objects at most: `Pass.objects_left` tells how many more there is place for.
             passes: how many passes it has, from 1 to 256. Room times passes is at most 1,048,576.
             helpers: how many threads help with dear products while the store is open. Each has a pass of its own, which
                 counts as one of the 256 and is not among `passes`. One fewer than there are processors is a good number

@@ -146,6 +146,25 @@ fn threads_that_count_miss_nothing() {
 }
 
 #[test]
+fn a_pass_meets_another_one_in_its_later_generation_and_knows_all_that_it_knows() {
+    for adopts in [false, true] {
+        let [mut behind, mut ahead] = open_small(8);
+        let v = ahead.new_vector(3).unwrap();
+        fill(&mut ahead, v, 20);
+        assert_eq!(ahead.meet(&mut behind), Ok(true));
+        assert_eq!((ahead.generation(), behind.generation()), (Ok(2), Ok(0)));
+        let met = if adopts {
+            behind.adopt(&mut ahead)
+        } else {
+            behind.meet(&mut ahead)
+        };
+        assert_eq!((met, behind.generation()), (Ok(true), Ok(2)));
+        let known = |pass: &mut Pass| pass.facts().unwrap().known;
+        assert_eq!(known(&mut behind), known(&mut ahead));
+    }
+}
+
+#[test]
 fn passes_meet_in_each_generation() {
     let (mut own, mut other, v) = open();
     for _ in 0..5 {
@@ -206,33 +225,57 @@ fn a_branch_has_what_is_there_and_brings_a_result_back() {
 }
 
 #[test]
-fn a_generation_that_no_other_follows_says_why() {
-    let [mut own] = open_largest();
+fn a_generation_of_the_most_room_has_a_next_one() {
+    let mut passes = Chain::open_with(Store::MOST_ROOM, 1).unwrap();
+    let own = &mut passes[0];
     let v = own.new_vector::<u64>(3).unwrap();
-    fill(&mut own, v, 65_535);
-    // The room is used up, and no try to go on was made.
+    fill(own, v, 65_535);
     assert_eq!(own.facts().unwrap().room_left, 0);
-    assert_eq!(own.is_full(), Ok(false));
-    for _ in 0..2 {
-        assert_eq!(own.set(v, 0, 1), Err(Error::OrderFull));
-        assert_eq!(own.clear(v), Err(Error::OrderFull));
-        assert_eq!(own.is_full(), Ok(true));
-        assert_eq!(own.go_on(), Err(Error::RoomTooSmall { needed: 2 }));
-        assert_eq!(own.generation(), Ok(0));
-    }
-    assert_eq!(own.get(v, 0), Ok(Some(65_534)));
-
-    // A branch goes on from there.
-    let mut apart = own.branch(&Chosen::new().with(v), 10, 1).unwrap();
-    let there = apart[0].inherited(v).unwrap();
-    apart[0].clear(there).unwrap();
-    assert_eq!(apart[0].nvals(there), Ok(0));
+    own.set(v, 1, 1).unwrap();
+    assert_eq!((own.generation(), own.is_full()), (Ok(1), Ok(false)));
+    assert_eq!(stored(own, v), [(0, 65_534), (1, 1)]);
 }
 
-/// A chain of one pass whose generations have the most room.
-fn open_largest() -> [Pass; 1] {
-    let passes = Chain::open_with(Store::MOST_ROOM, 1).unwrap();
-    passes.try_into().expect("it has one pass")
+/// How many more objects there is place for in the next generation, before it takes a change. The vector is changed as often as this one
+/// takes changes yet.
+fn left_in_next(pass: &mut Pass, v: Vector<u64>) -> u64 {
+    let room_left = pass.facts().unwrap().room_left;
+    fill(pass, v, room_left.into());
+    assert_eq!(pass.go_on(), Ok(true));
+    pass.objects_left().unwrap()
+}
+
+#[test]
+fn many_objects_are_changed_and_freed_and_the_place_for_more_is_told() {
+    const VECTORS: u64 = 40_000;
+    let [mut own, mut other] = open_small(4_096);
+    let first = own.objects_left().unwrap();
+    let all: Vec<Vector<u64>> = (0..VECTORS)
+        .map(|k| {
+            let v = own.new_vector(4).unwrap();
+            own.set(v, 3, k).unwrap();
+            v
+        })
+        .collect();
+    assert_eq!(left_in_next(&mut own, all[0]), first - VECTORS);
+    fill(&mut other, all[0], 10_000);
+    assert_eq!(own.get(all[0], 0), Ok(Some(9_999)));
+    for (k, &v) in (0..).zip(&all) {
+        assert_eq!(own.get(v, 3), Ok(Some(k)));
+    }
+
+    for &v in all.iter().skip(1).step_by(2) {
+        own.free(v).unwrap();
+    }
+    assert_eq!(left_in_next(&mut own, all[0]), first - VECTORS / 2);
+    for (k, &v) in (0..).zip(&all) {
+        let wanted = if k % 2 == 0 {
+            Ok(Some(k))
+        } else {
+            Err(Error::UninitializedObject)
+        };
+        assert_eq!(other.get(v, 3), wanted);
+    }
 }
 
 #[test]
@@ -261,6 +304,7 @@ fn a_store_is_no_chain_and_a_chain_has_no_successor() {
     assert_eq!(own.succeed(10, 1).map(|_| ()), Err(Error::InvalidValue));
     let [mut pass] = Store::open_array(10).unwrap();
     assert_eq!(pass.generation(), Err(Error::InvalidValue));
+    assert_eq!(pass.objects_left(), Err(Error::InvalidValue));
     assert_eq!(pass.go_on(), Err(Error::InvalidValue));
     assert_eq!(pass.seat(0).map(|_| ()), Err(Error::InvalidValue));
     assert_eq!(pass.meet(&mut own), Err(Error::ForeignPass));

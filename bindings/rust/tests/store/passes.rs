@@ -2,7 +2,9 @@
 
 use crate::open;
 use std::thread;
-use trowelheath::{Chosen, Descriptor, Error, Monoid, Object, Semiring, Store, Wait};
+use trowelheath::{
+    Chain, Chosen, Descriptor, Error, Matrix, Monoid, Object, Pass, Semiring, Store, Wait,
+};
 
 #[test]
 fn a_store_is_opened_within_its_limits() {
@@ -185,10 +187,6 @@ fn a_branch_keeps_the_moment_of_its_objects_and_gives_a_result_back() {
     let out = pass.new_vector::<u64>(4).unwrap();
 
     let chosen = Chosen::new().with(a).with(v).with(gone).with(v);
-    assert_eq!(
-        pass.branch(&chosen, 65_536, 1).map(|_| ()),
-        Err(Error::RoomTooSmall { needed: 6 })
-    );
     let mut branch = pass.branch(&chosen, 10, 2).unwrap();
     let facts = branch[1].facts().unwrap();
     assert_eq!((facts.number, facts.known, facts.room_left), (1, 6, 10));
@@ -273,15 +271,81 @@ fn a_successor_before_the_end_is_a_branch() {
     assert_eq!(pass.nvals(v), Ok(1));
 }
 
+/// So many edges of a path, from this vertex on.
+fn add_edges(pass: &mut Pass, graph: Matrix<u64>, from: u64, count: u64) {
+    for k in from..from + count {
+        pass.set(graph, (k, k + 1), 1).unwrap();
+    }
+}
+
+#[test]
+fn a_branch_of_a_pass_that_has_not_read_begins_with_all_that_others_entered() {
+    let store = Store::open_array(40).unwrap();
+    let chain = Chain::open_with(8, 2).unwrap().try_into();
+    for (what, [mut opens, mut enters]) in [("store", store), ("chain", chain.unwrap())] {
+        let gone = enters.new_matrix::<u64>(1, 1).unwrap();
+        let graph = enters.new_matrix::<u64>(19, 19).unwrap();
+        enters.free(gone).unwrap();
+        for from in [0, 9] {
+            add_edges(&mut enters, graph, from, 9);
+            let chosen = Chosen::new().with(graph);
+            let mut branch = opens.branch(&chosen, 10, 1).unwrap();
+            let there = branch[0].inherited(graph).unwrap();
+            assert_eq!(branch[0].nvals(there), Ok(from + 9), "of a {what}");
+        }
+    }
+}
+
+#[test]
+fn a_successor_of_a_pass_that_has_not_read_gives_no_number_anew() {
+    let [mut opens, mut enters] = Store::open_array(40).unwrap();
+    let graph = enters.new_matrix::<u64>(19, 19).unwrap();
+    for from in [0, 9] {
+        add_edges(&mut enters, graph, from, 9);
+        let mut next = opens.succeed(10, 1).unwrap();
+        let made = next[0].new_matrix::<u64>(19, 19).unwrap();
+        next[0].set(made, (2, 2), 99).unwrap();
+        let there = next[0].inherited(graph).unwrap();
+        assert_ne!(there, made);
+        assert_eq!(next[0].nvals(there), Ok(from + 9));
+        assert_eq!(next[0].get(there, (2, 2)), Ok(None));
+        assert_eq!(next[0].nvals(made), Ok(1));
+    }
+}
+
+#[test]
+fn objects_that_no_store_of_so_many_passes_takes_are_counted() {
+    const VECTORS: u64 = 522_241;
+    let mut passes = Store::open(65_536, 1).unwrap();
+    let v = passes[0].new_vector::<u64>(3).unwrap();
+    passes[0].set(v, 0, 5).unwrap();
+    let mut last = v;
+    for _ in 1..VECTORS {
+        if passes[0].facts().unwrap().room_left == 0 {
+            passes = passes[0].succeed(65_536, 1).unwrap();
+            last = passes[0].inherited(last).unwrap();
+        }
+        last = passes[0].dup(last).unwrap();
+    }
+    // Two calls make each of them. With a room of 4,095 they are one more than 256 passes may share.
+    let refusal = passes[0].succeed(4_095, 256).map(|_| ()).unwrap_err();
+    assert_eq!(
+        refusal,
+        Error::RoomTooSmall {
+            needed: 2 * VECTORS
+        }
+    );
+    assert!(
+        refusal.to_string().ends_with("They are 1044482."),
+        "{refusal}"
+    );
+}
+
 #[test]
 fn a_successor_is_refused_with_its_reason() {
     let mut pass = open();
     let v = pass.new_vector::<u64>(3).unwrap();
     pass.set(v, 0, 5).unwrap();
-    let refusal = pass.succeed(65_535, 1).map(|_| ()).unwrap_err();
-    assert_eq!(refusal, Error::RoomTooSmall { needed: 2 });
-    assert_eq!(refusal.status(), Some(-103));
-    assert!(refusal.to_string().ends_with("They are 2."), "{refusal}");
     for (room, passes) in [(0, 1), (65_537, 1), (2, 0), (2, 257), (65_536, 17)] {
         let answer = pass.succeed(room, passes).map(|_| ());
         assert_eq!(

@@ -1,4 +1,4 @@
-use Rattle.std.proofs.Common.{◌≡◌, ◌∙◌, ◌-◌, ◌++◌, ◌∷◌, [], suc, ℕ, List, Option, Some, None, length, refl, subst, sym, ap, arith, length-append, length-set}
+use Rattle.std.proofs.Common.{◌≡◌, ◌∙◌, ◌-◌, ◌++◌, ◌∷◌, [], suc, ℕ, List, Option, Some, None, length, subst, sym, ap, arith, length-append, length-set}
 use Rattle.std.specs.Prelude.{MatchOption, slice_get}
 use Rattle.grb_generations.specs.Seated.{Seated}
 use Rattle.grb_c.specs.Chains.{HasMember}

@@ -2,7 +2,6 @@ use lib.Signed.{mag}
 use Rattle.std.proofs.Common.{◌≡◌, ◌∙◌, ◌<◌, ℕ, ℤ, List, Option, Some, None, ap, sym, subst, arith, length, to_z, of_z, w32, to_z-of_z}
 use Rattle.std.proofs.lemmas.List.{length-map}
 use Rattle.std.specs.Prelude.{map, slice_get, slice_index_or}
-use Rattle.grb_order.specs.View.{fresh}
 use Rattle.grb_context.specs.Known.{AreNew, Knowing, Shared}
 use Rattle.grb_codes.specs.Codes.{success}
 use Rattle.grb_c.specs.Opening.{new_pass}
