@@ -65,11 +65,11 @@ abbrev pub calls_out : NoGeneration → ℕ → ℕ
 calls_out (none.RoomTooSmall needed) before = needed
 calls_out _ before = before
 
--- what a try to go on leaves: the member moved, or it stayed; where it was refused, since its generation is full and there is no next one,
--- for this reason, which it keeps
+-- what a try to go on leaves: the member moved; or it stayed, since its generation is not full or it does not know all of that; where it was
+-- refused, since its generation is full and there is no next one, for this reason, which it keeps
 abbrev pub WentOn : Seated → Seated → Result Bool NoGeneration → Type 0
 WentOn old new (Ok true) = Moves old new
-WentOn old new (Ok false) = Stays old new
+WentOn old new (Ok false) = Stays old new × (IsAtEnd old.pass → ⊥)
 WentOn old new (Err why) = Stays old new × IsAtEnd old.pass × IsNoGeneration old.chain old.numbers old.pass why × (new.reason ≡ Some why)
 
 -- what a try to go on tells: whether the member moved; or why there is no next generation, and how many calls it needs

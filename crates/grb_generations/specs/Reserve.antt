@@ -1,5 +1,5 @@
 -- believed: What is kept back of the room of a chain's stores (own): a call that makes an object is taken where the next generation has room
--- for all objects that there can be then, so that one which frees, clears or changes an object always finds room.
+-- for all objects that there can be then; no other call is held back.
 use Rattle.std.specs.Prelude.{ℕ, ◌+◌, ◌-◌, ◌*◌, ◌/◌, ◌≤◌, length, min}
 use Rattle.grb_order.specs.declared.limits.TheConstants.{MOST_PLACES, MOST_WORDS}
 use Rattle.grb_call.specs.History.{History, store_of}

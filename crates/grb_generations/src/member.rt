@@ -242,8 +242,8 @@ impl Member {
     ///
     /// A change that finds its generation full has the member make the next one, or wait a bounded time for another member that makes it,
     /// and is made there. `OrderFull` says that it was made nowhere, since the generation is full and the next one was not to be had: memory
-    /// or a record is refused, or a bound was reached; or the call makes an object for which the chain has no place, so that calls which free,
-    /// clear or change one always find room. [`Member::reason`] tells which, and a later call tries again. All other refusals are as of
+    /// or a record is refused, or a bound was reached; or the call makes an object for which the chain has no place; no other call is
+    /// refused for that. [`Member::reason`] tells which, and a later call tries again. All other refusals are as of
     /// [`Context::call`].
     ///
     /// Nothing is lost on the way: what the member sees after the call is what it saw before, with calls of others made on it, and then this
@@ -494,6 +494,7 @@ impl Member {
     pub fn go_on(&mut self) -> Result<bool, NoGeneration>
         ensures moved { result ≡ Ok true → Moves self.old self.new }
         ensures stayed { result ≡ Ok false → Stays self.old self.new }
+        ensures room { result ≡ Ok false → IsAtEnd self.old.pass → ⊥ }
         ensures err { OnErr result (Stays self.old self.new) }
         ensures end { OnErr result (IsAtEnd self.old.pass) }
         ensures refused { IfErr result (IsNoGeneration self.old.chain self.old.numbers self.old.pass) }

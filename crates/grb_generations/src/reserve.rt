@@ -1,4 +1,4 @@
-//! What is kept back of the room of a chain, so that it can always go on.
+//! What is kept back of the room of a chain, so that objects which are made leave the next generation its room.
 //!
 //! A generation begins with two calls at most for each object that is there. A call that makes an object is taken only where there is place
 //! in the next generation for all objects that there can be at the end of this one: those that were made, and one for each call that it takes
