@@ -163,6 +163,14 @@ run_fail() {
     compare "$name" c/expected/fail.txt env CC="$CC" c/fail.sh "$library" "$heap"
 }
 
+# The program that counts the requests of members for memory.
+run_once() {
+    local name='c/once'
+    lacks "$name" "$CC" && return
+    build "$name" "$CC" -std=c11 -O2 -Wall -Wextra -Werror -Ic -Wl,--wrap=malloc,--wrap=calloc,--wrap=realloc,--wrap=free c/once.c "${link[@]}" -o "$work/once" || return
+    compare "$name" c/expected/once.txt "$work/once"
+}
+
 # Three algorithms that were ported from GraphBLAS.h, and the program that they were ported from.
 run_ports() {
     local name='c/ports' folder
@@ -322,6 +330,7 @@ for file in python/tests/test_*.py; do
 done
 add run_bench
 add run_bench_chain
+add run_once
 add run_bench_store
 for name in $(plain_programs); do add run_c "$name"; done
 add run_ports

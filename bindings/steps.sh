@@ -38,12 +38,12 @@ names_in() {
     for file in "$1"/*"$2"; do basename "$file" "$2"; done
 }
 
-# The programs of c/ that are built and run as they are: neither those that refuse memory, which fail.sh runs, nor those that time.
+# The programs of c/ that are built and run as they are: neither those that refuse memory, which fail.sh runs, nor those that count or time.
 plain_programs() {
     local name
     for name in $(names_in c/expected .txt); do
         case $name in
-            bench* | fail) ;;
+            bench* | fail | once) ;;
             *) if ! grep -q '^#include "memory.h"' "c/$name.c"; then echo "$name"; fi ;;
         esac
     done

@@ -73,10 +73,24 @@ static struct {
     Supply supply;
 } memory = {.supply = {BYTES, SIZE_MAX}};
 
+/* Called in the middle of each request, as another thread may come then, or NULL. Its own requests call nothing. */
+static void (*meanwhile)(void);
+
+static inline void come_between(void)
+{
+    void (*called)(void) = meanwhile;
+    if (called != NULL) {
+        meanwhile = NULL;
+        called();
+        meanwhile = called;
+    }
+}
+
 /* Whether this many bytes are had in place of `old`. */
 static bool is_had(size_t size, size_t old)
 {
     bool is_refused = false;
+    come_between();
     if (memory.is_step) {
         memory.asked++;
         size_t number = memory.supply.number, held = memory.held - old + size;

@@ -250,7 +250,8 @@ static void expect_product(TrB_Pass *pass, const Dear *dear)
 typedef enum { WAS_REFUSED, ALONE, BY_BLOCKS } Went;
 
 /* Calls for the product, and reads it with this much memory; where it is refused, all is as before, and the next read
- * is answered. */
+ * is answered. A product of which a block was made is not made again: once one request is refused, no other is made. With
+ * so many bytes a larger one may be refused before, of what may be left out, as a look at what others left. */
 static Went try_product(TrB_Pass *pass, const Dear *dear, uint64_t all, Supply supply)
 {
     TrB_Index nvals;
@@ -265,6 +266,7 @@ static Went try_product(TrB_Pass *pass, const Dear *dear, uint64_t all, Supply s
         Shown after = shown(pass);
         before.matrices[dear->c.id] = TrB_OUT_OF_MEMORY;
         HOLDS(is_same_shown(&after, &before));
+        HOLDS(made == 0 || made == all || supply.way == BYTES || memory.refused == 1);
         expect_product(pass, dear);
         return WAS_REFUSED;
     }
@@ -284,6 +286,87 @@ static void help_without_memory(TrB_Pass *pass, uint64_t all)
     let_go();
     Shown after = shown(pass);
     HOLDS(made == 0 && memory.asked == 0 && is_same_shown(&after, &before));
+}
+
+/* What a visitor, another pass, asks for in the middle of a read of the product: it is refused all memory from some
+ * request on. Then it helps, with ample memory. */
+typedef enum { NEITHER, HELP, READ } First;
+
+static struct {
+    TrB_Pass *pass;
+    TrB_Matrix c;
+    size_t at;       /* the request of the read in the middle of which it comes */
+    First first;
+    size_t number;   /* the first of its own requests that is refused */
+    bool is_refused; /* its read was */
+    uint32_t made;   /* how many blocks it made in all */
+} visitor;
+
+static void visit(void)
+{
+    TrB_Index nvals;
+    uint32_t made;
+    if (!memory.is_step || memory.asked + 1 != visitor.at) {
+        return;
+    }
+    memory.supply = (Supply){ON, memory.asked + visitor.number};
+    if (visitor.first == HELP) {
+        OK(TrB_help(visitor.pass, &visitor.made));
+    } else if (visitor.first == READ) {
+        TrB_Info info = TrB_Matrix_nvals(visitor.pass, &nvals, visitor.c);
+        visitor.is_refused = info == TrB_OUT_OF_MEMORY;
+        HOLDS(visitor.is_refused || (info == TrB_SUCCESS && nvals == NARROW * NARROW));
+    }
+    memory.supply = AMPLE;
+    OK(TrB_help(visitor.pass, &made));
+    visitor.made += made;
+}
+
+/* One pass reads the product, and the other visits it. How many requests the read makes without the visitor's. */
+static size_t read_visited(TrB_Pass *passes, const Dear *dear, size_t at, First first, size_t number)
+{
+    TrB_Index nvals;
+    call_for_product(&passes[0], dear);
+    visitor.pass = &passes[1];
+    visitor.c = dear->c;
+    visitor.at = at;
+    visitor.first = first;
+    visitor.number = number;
+    visitor.is_refused = false;
+    visitor.made = 0;
+    meanwhile = visit;
+    hold_back(AMPLE);
+    OK(TrB_Matrix_nvals(&passes[0], &nvals, dear->c));
+    let_go();
+    meanwhile = NULL;
+    expect_product(&passes[0], dear);
+    expect_product(&passes[1], dear);
+    return memory.asked;
+}
+
+/* A block whose maker was refused memory is made by the next who helps: so all are made but the one that is claimed by
+ * the reader. And who is refused memory in a read of the product gives it up: then nobody helps with it any more, and
+ * the other reader makes the rest of it alone. */
+static void help_in_between(TrB_Pass *passes, const Dear *dear, uint64_t all)
+{
+    size_t requests = read_visited(passes, dear, 0, NEITHER, 0), first = 0, last = 0;
+    for (size_t at = 1; at <= requests; at++) {
+        read_visited(passes, dear, at, HELP, 1);
+        if (visitor.made == all - 1) {
+            first = first == 0 ? at : first;
+            last = at;
+        }
+    }
+    HOLDS(first > 0);
+    size_t number = 0;
+    unsigned given_up = 0;
+    do {
+        number++;
+        read_visited(passes, dear, (first + last) / 2, READ, number);
+        HOLDS(visitor.made == 0 || visitor.made == all - 1);
+        given_up += visitor.is_refused && visitor.made == 0;
+    } while (visitor.is_refused);
+    HOLDS(given_up > 0);
 }
 
 static void multiply_by_blocks(void)
@@ -313,14 +396,15 @@ static void multiply_by_blocks(void)
             went[last]++;
         } while (go_on(&supply));
         fprintf(stderr, " %u %u", went[WAS_REFUSED], went[ALONE]);
-        HOLDS(last == BY_BLOCKS && went[WAS_REFUSED] > 0 && (way == ON || went[ALONE] > 0));
+        HOLDS(last == BY_BLOCKS && went[WAS_REFUSED] > 0 && (way != ONCE || went[ALONE] > 0));
     }
     checked_row = NULL;
     fprintf(stderr, "\n");
+    help_in_between(passes, &dear, all);
     expect_product(&passes[1], &dear);
     free_both(passes);
     HOLDS(memory.held == before);
-    printf("dear products are refused in turn, and made alone where blocks are\n");
+    printf("dear products are refused in turn, and none of them is tried twice\n");
 }
 
 int main(void)

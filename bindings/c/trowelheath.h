@@ -302,6 +302,13 @@ typedef struct {
     uint32_t made;      /* how many calls of the history its last call evaluated to answer */
 } TrB_Facts;
 
+/* What a pass keeps and has looked at: counts for who watches what a store costs. */
+typedef struct {
+    uint64_t entries;      /* how many entries the results have that it keeps */
+    uint64_t entries_left; /* and those that the passes of its store left to one another */
+    uint64_t looks;        /* how much it has looked at so far to find that nothing is to be made */
+} TrB_Costs;
+
 #ifdef __cplusplus
 static_assert(sizeof(TrB_Pass) == 16 && sizeof(bool) == 1, "the library is for 64-bit machines");
 #else
@@ -335,6 +342,7 @@ int32_t trb_help(TrB_Pass *pass, uint32_t *out);
 int32_t trb_blocks(TrB_Pass *pass, uint64_t *out);
 int32_t trb_release(TrB_Pass *pass);
 int32_t trb_facts(TrB_Pass *pass, TrB_Facts *out);
+int32_t trb_costs(TrB_Pass *pass, TrB_Costs *out);
 int32_t trb_matrix_last_info(TrB_Pass *pass, int32_t *out, uint32_t a);
 int32_t trb_vector_last_info(TrB_Pass *pass, int32_t *out, uint32_t v);
 
@@ -723,6 +731,12 @@ static inline TrB_Info TrB_release(TrB_Pass *pass)
 static inline TrB_Info TrB_facts(TrB_Pass *pass, TrB_Facts *facts)
 {
     return (TrB_Info)trb_facts(pass, facts);
+}
+
+/* Tells what the pass keeps and has looked at. It learns nothing new. Takes no room. */
+static inline TrB_Info TrB_costs(TrB_Pass *pass, TrB_Costs *costs)
+{
+    return (TrB_Info)trb_costs(pass, costs);
 }
 
 /* ---- Objects ----------------------------------------------------------------------------------- */

@@ -47,6 +47,7 @@ using Index = std::uint64_t;
 
 /// What a pass tells of itself. trowelheath.h explains each member.
 using Facts = TrB_Facts;
+using Costs = TrB_Costs;
 
 /// Whether the library that was linked or loaded is proved. Of one that is not, nothing is claimed.
 [[nodiscard]] inline bool is_proved() noexcept
@@ -828,6 +829,14 @@ public:
         Facts facts{};
         detail::check(TrB_facts(&raw_, &facts));
         return facts;
+    }
+
+    /// What the pass keeps and has looked at, as TrB_costs.
+    [[nodiscard]] Costs costs()
+    {
+        Costs costs{};
+        detail::check(TrB_costs(&raw_, &costs));
+        return costs;
     }
 
     /// The number of the generation of the chain in which the pass sits, from 0, as TrB_chain_generation.

@@ -20,3 +20,15 @@ pub struct Facts {
     /// How many calls of the history its last call made to answer, so what a read cost. 0 after a change that is no build.
     pub made: u32,
 }
+
+/// What a pass keeps and has looked at: counts for who watches what a store costs. [`Pass::costs`](crate::Pass::costs) answers them.
+#[derive(Clone, Copy, Debug, Default, PartialEq, Eq, Hash)]
+#[repr(C)]
+pub struct Costs {
+    /// How many entries the results have that it keeps; what it shares with others counts with each.
+    pub entries: u64,
+    /// How many entries the results have that the passes of its store left to one another.
+    pub entries_left: u64,
+    /// How many objects, results and calls it has looked at so far without that one of them was made.
+    pub looks: u64,
+}

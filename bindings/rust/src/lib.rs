@@ -116,7 +116,7 @@ pub use descriptor::{Descriptor, Wait};
 pub use element::Element;
 pub use entries::{MatrixEntries, Triples, VectorEntries};
 pub use error::{Error, Info};
-pub use facts::Facts;
+pub use facts::{Costs, Facts};
 pub use function::{Function, UnaryOp};
 pub use matrix::Matrix;
 pub use object::{Mask, Object};

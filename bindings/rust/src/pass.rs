@@ -3,7 +3,7 @@
 use crate::chosen::{Before, Chosen};
 use crate::descriptor::Descriptor;
 use crate::error::{done, found, Error};
-use crate::facts::Facts;
+use crate::facts::{Costs, Facts};
 use crate::object::Object;
 use crate::refusal::Refused;
 use crate::store::Store;
@@ -252,6 +252,18 @@ impl Pass {
         // SAFETY: the pass is borrowed mutably, so this call alone has it, and the place of the answer is a local variable.
         done(unsafe { sys::trb_facts(&mut self.raw, &mut facts) })?;
         Ok(facts)
+    }
+
+    /// What the pass keeps and has looked at. It learns nothing by this.
+    ///
+    /// # Errors
+    ///
+    /// The library refuses only a pass that has ended, and this one has not.
+    pub fn costs(&mut self) -> Result<Costs, Error> {
+        let mut costs = Costs::default();
+        // SAFETY: the pass is borrowed mutably, so this call alone has it, and the place of the answer is a local variable.
+        done(unsafe { sys::trb_costs(&mut self.raw, &mut costs) })?;
+        Ok(costs)
     }
 
     /// Whether the room is used up and the pass knows every change. Then no pass of the store will ever know another one. It learns nothing

@@ -12,7 +12,7 @@
 //! - Two stores that are open have two numbers.
 //! - `malloc`, `realloc` and `free` are of one allocator. No call is made in a signal handler, or in the child of a fork of threads.
 
-use crate::facts::Facts;
+use crate::facts::{Costs, Facts};
 use std::ffi::c_void;
 use std::mem::{align_of, size_of};
 use std::ptr::null_mut;
@@ -100,6 +100,7 @@ extern "C" {
     pub fn trb_blocks(pass: *mut TrbPass, out: *mut u64) -> i32;
     pub fn trb_release(pass: *mut TrbPass) -> i32;
     pub fn trb_facts(pass: *mut TrbPass, out: *mut Facts) -> i32;
+    pub fn trb_costs(pass: *mut TrbPass, out: *mut Costs) -> i32;
     pub fn trb_matrix_last_info(pass: *mut TrbPass, out: *mut i32, a: u32) -> i32;
     pub fn trb_vector_last_info(pass: *mut TrbPass, out: *mut i32, v: u32) -> i32;
 

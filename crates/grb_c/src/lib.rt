@@ -22,7 +22,7 @@ mod tuples;
 mod version;
 
 pub use bounded::Bounded;
-pub use facts::TrbFacts;
+pub use facts::{TrbCosts, TrbFacts};
 pub use handle::TrbPass;
 pub use parts::Parts;
 pub use raw::Raw;

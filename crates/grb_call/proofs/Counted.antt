@@ -1,8 +1,13 @@
 -- How many objects of each sort there are after calls: one more for each call at most.
 use Rattle.std.proofs.Common.{ℕ, ◌+◌, ◌≤◌, List, [], ◌∷◌, ◌++◌, length, slice_set, arith, length-set, Option, Some, None}
+use Rattle.std.specs.Option.{option_map_or}
+use Rattle.grb_core.specs.declared.refusal.Refusal.{Refusal}
 use Rattle.grb_call.specs.declared.call.Call.{Call}
+use Rattle.grb_call.specs.declared.call.Call.TheVariants as call
 use Rattle.grb_call.specs.declared.ids.Object.{Object}
 use Rattle.grb_call.specs.declared.ids.Object.TheVariants as object
+use Rattle.grb_call.specs.Refused.{refused_by_shapes, reshaped, shapes_after}
+use Rattle.grb_call.specs.Shapes.{ObjectShapes}
 use Rattle.grb_call.specs.Store.{Store}
 use Rattle.grb_call.specs.After.{changed, output_changed, after}
 use Rattle.grb_call.specs.History.{after_all}
@@ -47,3 +52,27 @@ module _ (s : Store) where
 pub vectors_after_all : (s : Store) (cs : List Call) → length (after_all s cs).vectors ≤ length s.vectors + length cs
 vectors_after_all s [] = omega arith
 vectors_after_all s (c ∷ cs) = let one = vectors_after s c in let rest = vectors_after_all (after s c) cs in omega arith
+
+matrices_reshaped : (s : ObjectShapes) (c : Call) → length (reshaped s c).matrices ≤ length s.matrices + 1
+matrices_reshaped s (call.NewMatrix domain nrows ncols) = pushed s.matrices _
+matrices_reshaped s (call.FreeMatrix a) = put s.matrices a.0 _
+matrices_reshaped s (call.ResizeMatrix a nrows ncols) = put s.matrices a.0 _
+matrices_reshaped s (call.DupMatrix a) = pushed s.matrices _
+matrices_reshaped s (call.Diag v diagonal) = pushed s.matrices _
+matrices_reshaped s c = omega arith
+
+vectors_reshaped : (s : ObjectShapes) (c : Call) → length (reshaped s c).vectors ≤ length s.vectors + 1
+vectors_reshaped s (call.NewVector domain size) = pushed s.vectors _
+vectors_reshaped s (call.FreeVector v) = put s.vectors v.0 _
+vectors_reshaped s (call.ResizeVector v size) = put s.vectors v.0 _
+vectors_reshaped s (call.DupVector v) = pushed s.vectors _
+vectors_reshaped s c = omega arith
+
+one_more : (s t : ObjectShapes) (o : Option Refusal) (f : ObjectShapes → ℕ) → f t ≤ f s + 1 → f (option_map_or (λ _. s) o t) ≤ f s + 1
+one_more s t None f few = few
+one_more s t (Some r) f few = omega arith
+
+-- shapes of one more object of each sort at most
+pub shapes_grow : (s : ObjectShapes) (c : Call) → (length (shapes_after s c).matrices ≤ length s.matrices + 1) × (length (shapes_after s c).vectors ≤ length s.vectors + 1)
+shapes_grow s c =
+    (one_more s (reshaped s c) (refused_by_shapes s c) (λ t. length t.matrices) (matrices_reshaped s c), one_more s (reshaped s c) (refused_by_shapes s c) (λ t. length t.vectors) (vectors_reshaped s c))

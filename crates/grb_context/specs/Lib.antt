@@ -10,12 +10,10 @@ pub use Rattle.grb_pass.specs.Laws
 pub use Rattle.grb_pass.specs.Learning
 pub use Rattle.grb_pass.specs.Meeting
 pub use Rattle.grb_pass.specs.Point
-pub use Rattle.grb_pass.specs.Live
 pub use Rattle.grb_pass.specs.LiveNumbers
 pub use Rattle.grb_pass.specs.Looking
 pub use Rattle.grb_pass.specs.Rebuilding
 pub use Rattle.grb_pass.specs.Rebuilt
-pub use Rattle.grb_pass.specs.Renumbered
 pub use Rattle.grb_pass.specs.Settled
 pub use Rattle.grb_pass.specs.Statuses
 pub use Rattle.grb_pass.specs.StoredIn

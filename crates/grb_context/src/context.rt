@@ -1,14 +1,18 @@
 //! A context: the shared store, its passes, and any call by a pass.
-ghost use Rattle.std.specs.Prelude.{◌≡◌, ◌<◌, ◌≤◌, ◌*◌, length, All, IfOk};
+ghost use Rattle.std.specs.Prelude.{◌≡◌, ◌<◌, ◌≤◌, ◌*◌, true, Ok, length, All, IfOk, OnErr};
+ghost use Rattle.grb_call.specs.History.{store_of};
+ghost use Rattle.grb_call.specs.Shapes.{is_live};
+ghost use Rattle.grb_call.specs.Store.{shapes_of};
 ghost use Rattle.grb_order.specs.declared.limits.TheConstants.{MOST_PASSES, MOST_ROOM, MOST_SEATS};
 ghost use Rattle.grb_order.specs.Order.{room_of};
 ghost use Rattle.grb_records.specs.Token.{HasRows};
 ghost use Rattle.grb_context.specs.Known.{AreNew, HasNoStatus, IsPassOf, known};
 ghost use Rattle.grb_context.specs.Answered.{Answered};
 ghost use Rattle.grb_context.specs.Meeting.{Met};
+ghost use Rattle.grb_context.specs.Settled.{IsLeftReady};
 
 use crate::Pass;
-use grb_call::{Call, Reply};
+use grb_call::{Call, Object, Reply};
 use grb_core::Refusal;
 use grb_operations::Bench;
 use grb_pass::Shared;
@@ -136,6 +140,32 @@ impl Context {
         ensures count { result ≤ length (known pass.new) }
     {
         self.shared.prepare(pass)
+    }
+
+    /// Makes what the object holds after all calls that the pass knows, if it is there, has the changes done that wait in it, and leaves it
+    /// ready, as a wait for it does: [`Pass::matrix`] then gives it up to the next call of the pass. Answers whether it is there. It learns
+    /// nothing, enters nothing and makes nothing else: for who wants one object of many, as it was. `AllocError` where memory is refused; then
+    /// what was made stays so (own).
+    pub fn evaluate(&self, pass: &mut Pass, object: Object) -> Result<bool, AllocError>
+        requires { IsPassOf self.now pass.old }
+        ensures pass { IsPassOf self.now pass.new }
+        ensures same { pass.new ≡ record pass.old { made = pass.new.made } }
+        ensures there { IfOk result (λ there. there ≡ is_live (shapes_of (store_of (known pass.old))) object) }
+        ensures ready { result ≡ Ok true → IsLeftReady pass.new object }
+        ensures memory { OnErr result (pass.old.settled < length (known pass.old)) }
+    {
+        self.shared.evaluate(pass, object)
+    }
+
+    /// How much work it is, about, to make what the object holds after all calls that the pass knows: 0 where it lies ready, 64 for a change of
+    /// one entry; a measure without a unit, of which no contract says more. Takes memory for what the pass did not look at yet; 0 where it is
+    /// refused (own).
+    pub fn work_left(&self, pass: &mut Pass, object: Object) -> u64
+        requires { IsPassOf self.now pass.old }
+        ensures pass { IsPassOf self.now pass.new }
+        ensures same { pass.new ≡ record pass.old { made = pass.new.made } }
+    {
+        self.shared.work_left(pass, object)
     }
 
     /// Makes blocks of the dear products that other passes of the context make at the moment, and answers how many: 0 where there is none.

@@ -6,14 +6,12 @@ ghost use Rattle.grb_records.specs.Token.{HasRows};
 ghost use Rattle.grb_call.specs.History.{store_of};
 ghost use Rattle.grb_context.specs.Chosen.{IsNoSuccessor, NamesLive, room_beside};
 ghost use Rattle.grb_context.specs.Known.{IsPassOf, known};
-ghost use Rattle.grb_context.specs.Live.{live_store};
-ghost use Rattle.grb_context.specs.Renumbered.{AreRenumbered};
 ghost use Rattle.grb_context.specs.Looking.{IsNow, Looks};
 ghost use Rattle.grb_context.specs.Succeeding.{AreBegun};
 
 use crate::Pass;
 use crate::context::Context;
-use grb_pass::{NoSuccessor, Renumbered};
+use grb_pass::NoSuccessor;
 use std::alloc::Global;
 
 impl Context {
@@ -80,32 +78,5 @@ impl Context {
     {
         let (shared, opened) = self.shared.succeed_now(alloc, pass, room, passes)?;
         Ok((Context { shared, alloc }, opened))
-    }
-
-    /// The same without the numbers of freed objects: the matrices that are there have the numbers 0, 1, 2 .. in their order, and so have
-    /// the vectors. Beside it stands which number became which; `Unmade` names an object by its old one. A service that makes objects for
-    /// each request goes on so for as long as a history has room for what it keeps (own).
-    pub fn succeed_live(
-        &self,
-        alloc: Global,
-        pass: &mut Pass,
-        room: u32,
-        passes: u32,
-    ) -> Result<(Context, Vec<Pass>, Renumbered), NoSuccessor>
-        requires pass { IsPassOf self.now pass.old }
-        requires room { (0 < room) × (room ≤ MOST_ROOM) }
-        requires passes { (0 < passes) × (passes ≤ MOST_PASSES) }
-        ensures pass { IsPassOf self.now pass.new }
-        ensures same { pass.new ≡ record pass.old { made = pass.new.made } }
-        ensures room { IfOk result (λ opened. room_of opened.0.order ≡ room_beside (live_store (store_of (known pass.old))) room) }
-        ensures records { IfOk result (λ opened. HasRows passes (room_beside (live_store (store_of (known pass.old))) room) opened.0.records) }
-        ensures begun { IfOk result (λ opened. AreBegun opened.0 (live_store (store_of (known pass.old))) passes opened.1.items) }
-        ensures ours { IfOk result (λ opened. All (IsPassOf opened.0) opened.1.items) }
-        ensures numbers { IfOk result (λ opened. AreRenumbered (store_of (known pass.old)) opened.2) }
-        ensures refused { IfErr result (IsNoSuccessor room passes (live_store (store_of (known pass.old)))) }
-        ensures named { IfErr result (NamesLive (store_of (known pass.old))) }
-    {
-        let (shared, opened, numbers) = self.shared.succeed_live(alloc, pass, room, passes)?;
-        Ok((Context { shared, alloc }, opened, numbers))
     }
 }

@@ -4,6 +4,8 @@ use Rattle.std.specs.Prelude.{Option, Some, None}
 use Rattle.std.specs.Option.{option_eq}
 use Rattle.std.specs.Cmp.Lexicographic.{pointwise}
 use Rattle.std.proofs.lemmas.Bool.{and_parts}
+use Rattle.grb_tuples.proofs.Listed.{cell_same, index_same, lists_same, number_same, value_same}
+use Rattle.grb_tuples.proofs.Stored.{eq_cell, eq_index}
 use Rattle.grb_core.specs.declared.domain.Domain.{Domain}
 use Rattle.grb_core.specs.declared.domain.Domain.TheVariants as domain
 use Rattle.grb_core.specs.declared.value.Value.{Value}
@@ -53,9 +55,6 @@ eq = ghosts.eq
 no : false ≡ true → ⊥
 no e = cc
 
-number_same : (m n : ℕ) → nat_eq m n ≡ true → m ≡ n
-number_same m n e = grind arith
-
 abbrev eq_matrix : MatrixId → MatrixId → Bool
 eq_matrix a b = nat_eq a.0 b.0
 
@@ -67,18 +66,6 @@ eq_vector a b = nat_eq a.0 b.0
 
 vector_same : (a b : VectorId) → eq_vector a b ≡ true → a ≡ b
 vector_same a b e = ap (λ n. record { 0 = n }) (number_same a.0 b.0 e)
-
-truth_same : (b c : Bool) → value_ghosts.eq (value.Bool b) (value.Bool c) ≡ true → b ≡ c
-truth_same true true e = refl
-truth_same false false e = refl
-truth_same true false e = cc
-truth_same false true e = cc
-
-value_same : (x y : Value) → value_ghosts.eq x y ≡ true → x ≡ y
-value_same (value.Bool b) (value.Bool c) e = ap value.Bool (truth_same b c e)
-value_same (value.Uint64 m) (value.Uint64 n) e = ap value.Uint64 (number_same m n e)
-value_same (value.Bool b) (value.Uint64 n) e = cc
-value_same (value.Uint64 m) (value.Bool c) e = cc
 
 domain_same : (d e : Domain) → domain_ghosts.eq d e ≡ true → d ≡ e
 domain_same domain.Bool domain.Bool h = refl
@@ -218,26 +205,6 @@ option_same f same None None e = refl
 option_same f same None (Some y) e = cc
 option_same f same (Some x) None e = cc
 option_same f same (Some x) (Some y) e = ap Some (same x y e)
-
-lists_same : {X : Type 0} (f : X → X → Bool) → ((x y : X) → f x y ≡ true → x ≡ y) → (xs ys : List X) → pointwise f xs ys ≡ true → xs ≡ ys
-lists_same f same [] [] e = refl
-lists_same f same [] (y ∷ ys) e = cc
-lists_same f same (x ∷ xs) [] e = cc
-lists_same f same (x ∷ xs) (y ∷ ys) e = let p = and_parts (f x y) (pointwise f xs ys) e in λ i. same x y p.0 i ∷ lists_same f same xs ys p.1 i
-
-abbrev eq_index : (x y : ℕ × Value) → Bool
-eq_index x y = nat_eq x.0 y.0 && value_ghosts.eq x.1 y.1
-
-index_same : (x y : ℕ × Value) → eq_index x y ≡ true → x ≡ y
-index_same x y e = let p = and_parts (nat_eq x.0 y.0) (value_ghosts.eq x.1 y.1) e in λ i. (number_same x.0 y.0 p.0 i, value_same x.1 y.1 p.1 i)
-
-abbrev eq_cell : (x y : ℕ × ℕ × Value) → Bool
-eq_cell x y = (nat_eq x.0 y.0 && nat_eq x.1 y.1) && value_ghosts.eq x.2 y.2
-
-cell_same : (x y : ℕ × ℕ × Value) → eq_cell x y ≡ true → x ≡ y
-cell_same x y e =
-    let p = and_parts (nat_eq x.0 y.0 && nat_eq x.1 y.1) (value_ghosts.eq x.2 y.2) e in let q = and_parts (nat_eq x.0 y.0) (nat_eq x.1 y.1) p.0 in
-    λ i. (number_same x.0 y.0 q.0 i, number_same x.1 y.1 q.1 i, value_same x.2 y.2 p.1 i)
 
 pub same : (a b : Call) → eq a b ≡ true → a ≡ b
 same (call.NewMatrix x0 x1 x2) (call.NewMatrix y0 y1 y2) e =

@@ -1,11 +1,12 @@
 //! An edition: calls, and results of them.
-ghost use Rattle.std.specs.Prelude.{◌≡◌, ◌<◌, ◌≤◌, List, IsTrue, IfOk, IfSome, length, map, take};
+ghost use Rattle.std.specs.Prelude.{◌≡◌, ◌<◌, ◌≤◌, ℕ, List, All, IsTrue, IfOk, length, map};
 ghost use Rattle.grb_call.specs.declared.call.Call.{Call};
 ghost use Rattle.grb_results.specs.declared.exchange.Kept.{Kept};
-ghost use Rattle.grb_results.specs.Kept.{AreKept, IsSameBut, KeepsAll};
+ghost use Rattle.grb_results.specs.Kept.{AreKept, IsSameBut, KeepsAll, KeepsFrom};
 ghost use Rattle.grb_results.specs.Results.{IsTable};
 ghost use Rattle.grb_editions.specs.Versions.{IsTaken};
 
+use crate::looked::Looked;
 use counted_slot::Fits;
 use grb_call::Call;
 use grb_results::{Kept, Table};
@@ -38,24 +39,45 @@ impl Fits for Edition {
     ghost fits = { λ tag edition. Unit };
 }
 
-/// Whether the calls are the same. Takes no memory.
+/// Whether the calls are known to be the same: of builds the lists are compared, each whole, where they stand in one form. Takes no memory.
 fn is_same_call(a: &Call, b: &Call) -> bool
     ensures { IsTrue result → a.now ≡ b.now }
 {
-    a == b
+    match a {
+        Call::BuildMatrix {
+            a: matrix,
+            tuples,
+            dup,
+        } => match b {
+            Call::BuildMatrix {
+                a: other,
+                tuples: others,
+                dup: others_dup,
+            } => matrix.0 == other.0 && *dup == *others_dup && tuples.is_one(others),
+            _ => false,
+        },
+        Call::BuildVector { v, tuples, dup } => match b {
+            Call::BuildVector {
+                v: other,
+                tuples: others,
+                dup: others_dup,
+            } => v.0 == other.0 && *dup == *others_dup && tuples.is_one(others),
+            _ => false,
+        },
+        _ => a == b,
+    }
 }
 
 /// Whether the calls begin with these, so that results of these are results of them. Takes no memory.
-fn begin_with(calls: &[&Call], first: &[Call]) -> bool
-    ensures same { IsTrue result → take (length first.now) (map (λ c. c.now) calls.now) ≡ first.now }
+fn begin_with(calls: &[&Call], first: &[Call], looked: &mut Looked) -> bool
     ensures within { IsTrue result → length first.now ≤ length calls.now }
-    ensures first { IsTrue result → (results : List Kept) → AreKept first.now results → AreKept (take (length first.now) (map (λ c. c.now) calls.now)) results }
     ensures kept { IsTrue result → (results : List Kept) → AreKept first.now results → AreKept (map (λ c. c.now) calls.now) results }
 {
     if first.len() > calls.len() {
         return false;
     }
     'calls: for at in 0..first.len() {
+        looked.compared = looked.compared.saturating_add(1);
         if !is_same_call(calls[at], &first[at]) {
             return false;
         }
@@ -79,6 +101,7 @@ fn keep_all(table: &mut Table, results: &[Kept])
     ensures table { (cs : List Call) → AreKept cs results.now → IsTable cs table.old → IsTable cs table.new }
     ensures same { IsSameBut table.old table.new }
     ensures stays { KeepsAll table.old table.new }
+    ensures first { (n : ℕ) → All (λ k. k.at < n) results.now → KeepsFrom n table.old table.new }
 {
     'results: for at in 0..results.len() {
         let _ = table.keep(&results[at]);
@@ -102,41 +125,40 @@ impl Edition {
         })
     }
 
-    /// How many calls it has, and its results, where its calls begin these. Takes no memory.
-    pub(crate) fn serving(&self, calls: &[&Call]) -> Option<(usize, &[Kept])>
-        ensures kept { IfSome result (λ found. AreKept (map (λ c. c.now) calls.now) found.1.now) }
-        ensures first { IfSome result (λ found. AreKept (take found.0 (map (λ c. c.now) calls.now)) found.1.now) }
-        ensures within { IfSome result (λ found. found.0 ≤ length calls.now) }
-        ensures counted { IfSome result (λ found. 0 < found.0) }
+    /// Lets the table keep its results also, where its calls begin these: how many calls it has, and 0 where they do not, as
+    /// [`Versions::take_into`] says.
+    ///
+    /// [`Versions::take_into`]: crate::Versions::take_into
+    pub(crate) fn take_into(&self, calls: &[&Call], table: &mut Table, looked: &mut Looked) -> usize
+        ensures { IsTaken (map (λ c. c.now) calls.now) table.old table.new result }
     {
-        if begin_with(calls, &self.calls) {
-            Some((self.calls.len(), self.results.as_slice()))
-        } else {
-            None
+        if !begin_with(calls, &self.calls, looked) {
+            return 0;
         }
-    }
-
-    /// How many calls it has. Takes no memory.
-    pub(crate) fn count(&self) -> usize {
+        keep_all(table, &self.results);
         self.calls.len()
     }
 
-    /// Lets the table keep its results also, where it has more calls than were seen and they begin these, as [`Versions::take_into`] says.
-    ///
-    /// [`Versions::take_into`]: crate::Versions::take_into
-    pub(crate) fn take_into(&self, calls: &[&Call], table: &mut Table, seen: usize) -> usize
-        ensures { IsTaken (map (λ c. c.now) calls.now) seen table.old table.new result }
-    {
-        if self.calls.len() <= seen {
-            return seen;
+    /// How many entries its results have: of all, or of those alone that are by the table the last of an object that is there. Takes no
+    /// memory.
+    pub(crate) fn entries(&self, still: Option<&Table>) -> u64 {
+        let mut entries: u64 = 0;
+        'results: for kept in &self.results {
+            let counts = match still {
+                Some(table) => table.is_last(kept.at),
+                None => true,
+            };
+            if counts {
+                entries = entries.saturating_add(kept.content.nvals());
+            }
         }
-        let Some((count, results)) = self.serving(calls) else {
-            return seen;
-        };
-        if count <= seen {
-            return seen;
-        }
-        keep_all(table, results);
-        count
+        entries
+    }
+
+    /// Whether more entries of its results are of calls that are not the last of an object that is there, by the table, than are of such that
+    /// are. Of more calls than the table has learnt it is not. Takes no memory.
+    pub(crate) fn is_outdated(&self, table: &Table) -> bool {
+        let still = self.entries(Some(table));
+        table.count() >= self.calls.len() && self.entries(None).saturating_sub(still) > still
     }
 }

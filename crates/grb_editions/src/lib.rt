@@ -5,7 +5,9 @@
 #![tactic(auto)]
 
 mod edition;
+mod looked;
 mod slots;
 mod versions;
 
+pub use looked::Looked;
 pub use versions::Versions;

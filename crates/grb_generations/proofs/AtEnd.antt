@@ -169,6 +169,10 @@ member_same old q is pass order passes same =
     let on = same_further old.pass q order passes same in
     record { placed = is.placed; pass = pass; passes = on.passes ∙ is.passes; began = still_began is.placed.here.own old.pass q on is.began; room = is.room; numbers = still_numbered old.numbers old.pass q on is.numbers; reason = still_so old.chain old.numbers old.pass q old.reason on is.reason }
 
+-- a pass that made something, and then more
+pub made_again : (p q r : Knowing) → q ≡ record p { made = q.made } → r ≡ record q { made = r.made } → r ≡ record p { made = r.made }
+made_again p q r first second = subst (λ (x : Knowing). r ≡ record x { made = r.made }) first second
+
 -- a pass that made something to evaluate, and knows the same
 pub member_made : (old : Seated) (q : Knowing) → IsMember old → q ≡ record old.pass { made = q.made } → IsMember (record old { pass = q })
 member_made old q is same =

@@ -23,27 +23,16 @@ use grb_context::{Context, Pass};
 use grb_numbers::Numbers;
 use grb_slots::Slots;
 use std::alloc::{AllocError, Global};
-use std::hint::spin_loop;
 use std::marker::Model;
 use std::sync::Arc;
-use std::sync::atomic::{AtomicU64, Ordering};
-
-/// How often a member that needs the next generation looks, with a hint to the processor between, and finds that the member which makes it
-/// has made no object more and not shown it, before it makes one itself: some ten milliseconds (own).
-pub const MOST_WAITS: u32 = 1_048_576;
-
-/// How often it looks at most, whatever the other member makes: no oftener than `MOST_WAITS` for each object that there is, and twice more
-/// (own).
-pub const MOST_WAITS_IN_ALL: u64 = 0x1_0000_0000;
+use std::sync::atomic::AtomicU64;
 
 /// A chain of stores: the latest of them, and the sizes that all have. Threads share it by the members that they have.
 #[derive(Drop)]
 pub struct Generations {
     pub(crate) latest: Latest,
-    // The number of the latest generation that a member set out to make.
-    being_made: AtomicU64,
-    // Raised by who makes the next generation, at each object.
-    progress: AtomicU64,
+    // To make the next generation.
+    pub(crate) claim: AtomicU64,
     desks: Desks,
     pub(crate) alloc: Global,
     pub(crate) room: u32,
@@ -182,16 +171,6 @@ fn first_site(
     (site, chronicle)
 }
 
-/// How often a member looks that waits for another which makes so many objects at most.
-fn most_looks(objects: u64) -> u64
-    ensures { result ≤ MOST_WAITS_IN_ALL }
-{
-    objects
-        .saturating_add(2)
-        .saturating_mul(u64::from(MOST_WAITS))
-        .min(MOST_WAITS_IN_ALL)
-}
-
 impl Generations {
     /// A chain whose generations take `room` calls each beside those that begin them, from 1 to `MOST_ROOM`, and so many members, from 1 to
     /// `MOST_PASSES`, which sit in the first: that has the number 0 and an empty store, and the member at index k has the number k. `room`
@@ -238,8 +217,7 @@ impl Generations {
     {
         Ok(Generations {
             latest: Latest::open(alloc, chronicle, site)?,
-            being_made: AtomicU64::new(0),
-            progress: AtomicU64::new(0),
+            claim: AtomicU64::new(0),
             desks: Desks::open(alloc, site)?,
             alloc,
             room: site.room,
@@ -353,54 +331,5 @@ impl Generations {
         }
         let (Seat { pass }, _given) = shown.next.seats.take(number as usize)?;
         Some((shown, pass))
-    }
-
-    /// Whether this is the first to set out to make the generation of this number.
-    fn begins(&self, number: u64) -> bool {
-        let latest = self.being_made.load(Ordering::SeqCst);
-        latest < number
-            && self
-                .being_made
-                .compare_exchange(latest, number, Ordering::SeqCst, Ordering::SeqCst)
-                .is_ok()
-    }
-
-    /// Says that the member which set out to make the generation of this number has done with that. Where it does not stand, the next
-    /// member that needs it sets out anew.
-    pub(crate) fn ends(&self, number: u64) {
-        if self.latest.number() < number {
-            let _ = self.being_made.compare_exchange(
-                number,
-                number.wrapping_sub(1),
-                Ordering::SeqCst,
-                Ordering::SeqCst,
-            );
-        }
-    }
-
-    /// Says that who makes the next generation goes on with that.
-    pub(crate) fn progresses(&self) {
-        let _ = self.progress.fetch_add(1, Ordering::SeqCst);
-    }
-
-    /// Whether a member is to make the generation of this number, which takes over objects of at most so many: it is the first to set out for
-    /// that, or who did has made no object more and not shown it in so many looks. Not where one stands. It looks as often as that may take for
-    /// each object. Takes no memory.
-    pub(crate) fn is_to_make(&self, number: u64, objects: u64) -> bool {
-        let mut seen = self.progress.load(Ordering::SeqCst);
-        let mut idle = 0u32;
-        'waits: for _ in 0..most_looks(objects) {
-            if self.latest.number() >= number {
-                return false;
-            }
-            if self.begins(number) || idle == MOST_WAITS {
-                return true;
-            }
-            let now = self.progress.load(Ordering::SeqCst);
-            idle = if now == seen { idle.wrapping_add(1) } else { 0 };
-            seen = now;
-            spin_loop();
-        }
-        true
     }
 }

@@ -9,6 +9,7 @@
 #![tactic(auto)]
 
 mod branches;
+mod claim;
 mod desk;
 mod ended;
 mod generation;
@@ -24,7 +25,8 @@ mod snapshots;
 mod told;
 mod work;
 
-pub use generations::{Generations, MOST_WAITS, MOST_WAITS_IN_ALL};
+pub use claim::{LEAST_WAITS, MOST_WAITS_IN_ALL};
+pub use generations::Generations;
 pub use latest::MOST_LOOKS;
 pub use member::{MOST_MOVES, Member};
 pub use reason::NoGeneration;

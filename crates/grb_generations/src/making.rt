@@ -120,8 +120,8 @@ fn are_few(live: &LiveObjects) -> bool
 
 impl Member {
     /// Makes the generation after its own, which has this number, of all that the member knows, shows it and moves there, unless another stands
-    /// by then, or others have its place; whether it moved.
-    pub(crate) fn make(&mut self, number: u64) -> Result<bool, NoGeneration>
+    /// by then, or others have its place; whether it moved. The turn is that of the claim.
+    pub(crate) fn make(&mut self, turn: u64, number: u64) -> Result<bool, NoGeneration>
         requires end { IsAtEnd self.old.pass }
         requires number { number ≡ self.old.generation + 1 }
         ensures moved { result ≡ Ok true → Moves self.old self.new }
@@ -132,50 +132,40 @@ impl Member {
         let Ok(live) = self.pass.live(self.generations.alloc) else {
             return Err(NoGeneration::OutOfMemory);
         };
-        self.make_matrices(&live.matrices);
-        self.make_vectors(&live.vectors);
+        self.make_objects(turn, &live);
         let (context, passes) = self.succeed(&live)?;
         self.show(number, &live, context, passes)
     }
 
-    /// Evaluates what this matrix holds, where it does not lie ready, and tells who waits for the member that it goes on.
-    fn make_matrix(&mut self, a: MatrixId)
+    /// Makes what the object of this inner number holds, where it does not lie ready, and says before how much work that is.
+    fn make_one(&mut self, turn: u64, object: Object)
         ensures { Stays self.old self.new }
     {
-        self.generations.progresses();
-        if self.pass.matrix(a).is_none() {
-            let alloc = self.generations.alloc;
-            let _branch = self.branch_inside(alloc, &[a], &[], 1, 1);
-        }
+        let work = self.context.work_left(&mut self.pass, object);
+        self.generations.goes_on(turn, work);
+        let _unmade = self.context.evaluate(&mut self.pass, object);
     }
 
-    /// The same of a vector.
-    fn make_vector(&mut self, v: VectorId)
+    /// The same of all of these objects, one after another. Then it says how much work their store is.
+    fn make_objects(&mut self, turn: u64, live: &LiveObjects)
         ensures { Stays self.old self.new }
     {
-        self.generations.progresses();
-        if self.pass.vector(v).is_none() {
-            let alloc = self.generations.alloc;
-            let _branch = self.branch_inside(alloc, &[], &[v], 1, 1);
+        let (matrices, vectors) = (live.matrices.len(), live.vectors.len());
+        'matrices: for at in 0..matrices {
+            self.make_one(turn, Object::Matrix(live.matrices[at]));
         }
-    }
-
-    /// The same of these matrices, one after another.
-    fn make_matrices(&mut self, matrices: &[MatrixId])
-        ensures { Stays self.old self.new }
-    {
-        'matrices: for at in 0..matrices.len() {
-            self.make_matrix(matrices[at]);
+        'vectors: for at in 0..vectors {
+            self.make_one(turn, Object::Vector(live.vectors[at]));
         }
-    }
-
-    /// The same of these vectors.
-    fn make_vectors(&mut self, vectors: &[VectorId])
-        ensures { Stays self.old self.new }
-    {
-        'vectors: for at in 0..vectors.len() {
-            self.make_vector(vectors[at]);
-        }
+        let (objects, passes) = (
+            (matrices as u64).saturating_add(vectors as u64),
+            u64::from(self.generations.members),
+        );
+        let calls = objects
+            .saturating_mul(2)
+            .saturating_add(u64::from(self.generations.room));
+        self.generations
+            .goes_on(turn, calls.saturating_mul(passes + 32));
     }
 
     /// The store of the objects that are there at the end of the member's generation, and its passes. That is all that its generation

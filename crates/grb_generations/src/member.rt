@@ -537,26 +537,16 @@ impl Member {
         ensures reason { IfErr result (λ why. self.new.reason ≡ Some why) }
         ensures later { self.old.generation ≤ self.new.generation }
     {
-        let objects = u64::from(self.pass.matrices_given()) + u64::from(self.pass.vectors_given());
-        match self.generation.checked_add(1) {
-            Some(number) if self.generations.is_to_make(number, objects) => self.provide(number),
-            _ => Ok(false),
-        }
-    }
-
-    /// Makes the generation of this number, and says that it has done with that; whether it moved there.
-    fn provide(&mut self, number: u64) -> Result<bool, NoGeneration>
-        requires end { IsAtEnd self.old.pass }
-        requires number { number ≡ self.old.generation + 1 }
-        ensures moved { result ≡ Ok true → Moves self.old self.new }
-        ensures stayed { result ≡ Ok false → Stays self.old self.new }
-        ensures err { OnErr result (Stays self.old self.new) }
-        ensures refused { IfErr result (IsNoGeneration self.old.chain self.old.numbers self.old.pass) }
-        ensures reason { IfErr result (λ why. self.new.reason ≡ Some why) }
-        ensures later { self.old.generation ≤ self.new.generation }
-    {
-        let made = self.make(number);
-        self.generations.ends(number);
+        let number = match self.generation.checked_add(1) {
+            Some(number) => number,
+            None => return Ok(false),
+        };
+        let turn = match self.generations.turn_to_make(number) {
+            Some(turn) => turn,
+            None => return Ok(false),
+        };
+        let made = self.make(turn, number);
+        self.generations.ends(turn, number);
         match made {
             Ok(moved) => Ok(moved),
             Err(why) => Err(self.because(why)),

@@ -1,6 +1,10 @@
 //! What a member's pass evaluates, lets go and learns from another member.
-ghost use Rattle.std.specs.Prelude.{◌≡◌, ◌<◌, ◌≤◌, Ok, length};
+ghost use Rattle.std.specs.Prelude.{◌≡◌, ◌<◌, ◌≤◌, true, Ok, length, IfOk, OnErr};
+ghost use Rattle.grb_call.specs.History.{store_of};
+ghost use Rattle.grb_call.specs.Shapes.{is_live};
+ghost use Rattle.grb_call.specs.Store.{shapes_of};
 ghost use Rattle.grb_context.specs.Known.{known, none_made};
+ghost use Rattle.grb_context.specs.Settled.{IsLeftReady};
 ghost use Rattle.grb_context.specs.Statuses.{status_at};
 ghost use Rattle.grb_numbers.specs.Inside.{inside_object};
 ghost use Rattle.grb_generations.specs.Meeting.{IsBeside, Meets, MeetsHere, MeetsNow};
@@ -9,6 +13,7 @@ ghost use Rattle.grb_generations.specs.Seated.{Comes, Stays};
 use crate::member::Member;
 use grb_call::Object;
 use grb_core::{Info, Refusal};
+use std::alloc::AllocError;
 
 /// Where one member sits beside another that it is to meet (own).
 #[derive(Clone, Copy, Debug, PartialEq, Eq)]
@@ -44,6 +49,18 @@ impl Member {
         ensures count { result ≤ length (known self.new.pass) }
     {
         self.context.prepare(&mut self.pass)
+    }
+
+    /// Makes what the object of this number holds, as the member's pass knows it where it sits, and leaves it ready, as
+    /// [`Context::evaluate`](grb_context::Context::evaluate) does; whether it is there. It does not move. `AllocError` as of that (own).
+    pub fn evaluate(&mut self, object: Object) -> Result<bool, AllocError>
+        ensures stays { Stays self.old self.new }
+        ensures there { IfOk result (λ there. there ≡ is_live (shapes_of (store_of (known self.old.pass))) (inside_object self.old.numbers object)) }
+        ensures ready { result ≡ Ok true → IsLeftReady self.new.pass (inside_object self.new.numbers object) }
+        ensures memory { OnErr result (self.old.pass.settled < length (known self.old.pass)) }
+    {
+        let inner = self.numbers.inside_object(object);
+        self.context.evaluate(&mut self.pass, inner)
     }
 
     /// Makes blocks of the dear products that other members make at the moment in the generation in which this one sits, and answers how

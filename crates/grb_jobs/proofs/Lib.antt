@@ -1,3 +1,2 @@
 pub mod Blocked
 pub mod Lent
-pub mod SameLists

@@ -1,6 +1,6 @@
 //! A board of products that passes make together. Whoever needs a product looks there for one of the same matrices; nothing else ties
 //! them.
-ghost use Rattle.std.specs.Prelude.{◌≡◌, ◌⊎◌, true, IfSome};
+ghost use Rattle.std.specs.Prelude.{◌≡◌, true, IfOk, IfSome};
 ghost use Rattle.std.specs.Arc.{arc_value};
 ghost use Rattle.std.specs.Option.{option_map};
 ghost use Rattle.grb_mxm.specs.Rows.{selected_product};
@@ -13,7 +13,7 @@ use crate::job::Job;
 use counted_slot::{Counted, FREE, Fits, ONE_READER, PRESENT, TAKEN};
 use grb_core::Semiring;
 use grb_sparse::SparseMatrix;
-use std::alloc::Global;
+use std::alloc::{AllocError, Global};
 use std::sync::Arc;
 use std::sync::atomic::{AtomicU64, Ordering};
 
@@ -51,7 +51,8 @@ fn share_of(posted: &Option<Posted>) -> Option<Arc<Job>> {
     }
 }
 
-/// The job at a place, if there is one that may be read.
+/// The job at a place, if there is one that may be read, and it was not given up. One that is over is taken away by whoever looks at it last:
+/// so none stays after it is over and was looked at.
 fn look(place: &Place) -> Option<Arc<Job>> {
     let word = place.load();
     if !is_readable(word) {
@@ -62,17 +63,19 @@ fn look(place: &Place) -> Option<Arc<Job>> {
         claim.done();
         return None;
     }
-    let job = share_of(claim.get());
+    let share = share_of(claim.get());
     let _ = claim.leave();
-    job
+    let job = share?;
+    if job.is_over() {
+        clear(place);
+    }
+    if job.is_given_up() { None } else { Some(job) }
 }
 
-/// Puts a job at a place that has this word, and says whether it did.
-fn post(place: &Place, word: u64, job: Arc<Job>) -> bool
-    requires { (word ≡ FREE) ⊎ (word ≡ PRESENT) }
-{
-    let (found, claim) = place.turn(word, TAKEN);
-    if found != word {
+/// Puts a job at a place that has none, and says whether it did.
+fn post(place: &Place, job: Arc<Job>) -> bool {
+    let (found, claim) = place.turn(FREE, TAKEN);
+    if found != FREE {
         claim.done();
         return false;
     }
@@ -80,21 +83,17 @@ fn post(place: &Place, word: u64, job: Arc<Job>) -> bool
     true
 }
 
-/// Takes the job away from a place that no one reads at the moment.
+/// Takes the job away from a place that no one reads at the moment. One that is not over came there since, and is put back.
 fn clear(place: &Place) {
     let (found, claim) = place.turn(PRESENT, TAKEN);
     if found != PRESENT {
         claim.done();
         return;
     }
-    let _ = claim.put(None, FREE);
-}
-
-/// Whether the job at a place is done.
-fn has_done(place: &Place) -> bool {
-    match look(place) {
-        Some(job) => job.is_done(),
-        None => false,
+    if let Some(Posted { job }) = claim.put(None, FREE) {
+        if !job.is_over() {
+            let _ = post(place, job);
+        }
     }
 }
 
@@ -133,58 +132,56 @@ impl Board {
         None
     }
 
-    /// Posts a job, where a place is free or has one that is done, and answers which.
+    /// Posts a job where a place is free, or has one that is over, and answers which.
     fn post(&self, job: &Arc<Job>) -> Option<usize> {
         'places: for at in 0..self.places.len() {
-            let word = if has_done(&self.places[at]) {
-                PRESENT
-            } else {
-                FREE
-            };
+            let _ = look(&self.places[at]);
             let Ok(share) = Arc::try_clone(job) else {
                 return None;
             };
-            if post(&self.places[at], word, share) {
+            if post(&self.places[at], share) {
                 return Some(at);
             }
         }
         None
     }
 
-    /// Takes the job away from a place, if it is one. Where others look at it again and again, it may stay, until a place is wanted or one
-    /// who helps finds it done.
-    fn clear(&self, posted: Option<usize>) {
-        if let Some(at) = posted {
-            if let Some(place) = self.places.get(at) {
-                clear(place);
-                for _ in 0..64 {
-                    if !has_done(place) {
-                        return;
-                    }
-                    clear(place);
-                }
-            }
+    /// Takes away whatever is over.
+    fn clear(&self) {
+        for at in 0..self.places.len() {
+            let _ = look(&self.places[at]);
         }
     }
 
-    /// Makes the product of a job that is not posted yet, with those who come to it there. Where another posted one of the same matrices
-    /// before it at the same time, that is the one that is made.
-    fn make(&self, job: &Arc<Job>) -> Option<SparseMatrix>
-        ensures matrix { IfSome result (λ made. made.matrix ≡ whole_of job.now.value.inputs) }
-        ensures assembled { IfSome result (λ made. made.assembled ≡ true) }
+    /// Makes the product of a job with those who come to it. It is over when the last of them has the product. For `None` and `AllocError`
+    /// see `Job::all`.
+    fn read(&self, job: &Job) -> Result<Option<SparseMatrix>, AllocError>
+        ensures matrix { IfOk result (λ found. IfSome found (λ made. made.matrix ≡ whole_of job.now.inputs)) }
+        ensures assembled { IfOk result (λ found. IfSome found (λ made. made.assembled ≡ true)) }
+    {
+        let made = job.all(&self.made);
+        self.clear();
+        made
+    }
+
+    /// The same of a job that is not posted yet. Where another posted one of the same matrices before it at the same time, that is the one
+    /// that is made.
+    fn make(&self, job: &Arc<Job>) -> Result<Option<SparseMatrix>, AllocError>
+        ensures matrix { IfOk result (λ found. IfSome found (λ made. made.matrix ≡ whole_of job.now.value.inputs)) }
+        ensures assembled { IfOk result (λ found. IfSome found (λ made. made.assembled ≡ true)) }
     {
         let posted = self.post(job);
         if let Some(before) = self.find(&job.inputs, posted.unwrap_or(0)) {
-            self.clear(posted);
-            return before.all(&self.made).ok();
+            job.give_up();
+            self.clear();
+            return self.read(&before);
         }
-        let made = job.all(&self.made);
-        self.clear(posted);
-        made.ok()
+        self.read(job)
     }
 
     /// The product of two matrices at the cells that a mask selects, as `grb_mxm::product` makes it: by a job of others on the same matrices,
-    /// where one is posted; else by one that is posted here. `None` where the product is not dear, or memory is refused.
+    /// where one is posted; else by one that is posted here. `None` where it may be made alone: it is not dear, or memory is refused for a
+    /// job, or besides blocks that others made. `AllocError` where memory is refused for the product itself; then nothing is made.
     pub(crate) fn product(
         &self,
         semiring: Semiring,
@@ -192,37 +189,36 @@ impl Board {
         mask: Option<&SparseMatrix>,
         first: &SparseMatrix,
         second: &SparseMatrix,
-    ) -> Option<SparseMatrix>
+    ) -> Result<Option<SparseMatrix>, AllocError>
         requires { IsReady semiring (option_map (λ m. m.now) mask) first.now second.now }
-        ensures matrix { IfSome result (λ made. made.matrix ≡ record { domain = first.now.matrix.domain; nrows = first.now.matrix.nrows; ncols = second.now.matrix.ncols; entries = selected_product semiring structure (option_map (λ m. m.now.matrix.entries) mask.entry) first.now.matrix.entries second.now.matrix.entries }) }
-        ensures assembled { IfSome result (λ made. made.assembled ≡ true) }
+        ensures matrix { IfOk result (λ found. IfSome found (λ made. made.matrix ≡ record { domain = first.now.matrix.domain; nrows = first.now.matrix.nrows; ncols = second.now.matrix.ncols; entries = selected_product semiring structure (option_map (λ m. m.now.matrix.entries) mask.entry) first.now.matrix.entries second.now.matrix.entries })) }
+        ensures assembled { IfOk result (λ found. IfSome found (λ made. made.assembled ≡ true)) }
     {
-        let cuts = cuts_of(self.alloc, mask, first, second)?;
+        let Some(cuts) = cuts_of(self.alloc, mask, first, second) else {
+            return Ok(None);
+        };
         let Ok(inputs) = Inputs::of(semiring, structure, mask, first, second) else {
-            return None;
+            return Ok(None);
         };
         if let Some(job) = self.find(&inputs, self.places.len()) {
-            return job.all(&self.made).ok();
+            return self.read(&job);
         }
         let Ok(job) = Job::open(self.alloc, inputs, cuts) else {
-            return None;
+            return Ok(None);
         };
         let Ok(job) = Arc::new(self.alloc, job) else {
-            return None;
+            return Ok(None);
         };
         self.make(&job)
     }
 
-    /// Makes blocks of whatever is posted, and answers how many. It waits for no one, and ends where memory is refused.
+    /// Makes blocks of whatever is posted, and answers how many. It waits for no one, and leaves a job for which memory is refused.
     ///
     /// Source: own.
     pub fn help(&self) -> u32 {
         let mut count: u32 = 0;
         for at in 0..self.places.len() {
             if let Some(job) = look(&self.places[at]) {
-                if job.is_done() {
-                    clear(&self.places[at]);
-                }
                 count = count.saturating_add(job.help(&self.made));
             }
         }

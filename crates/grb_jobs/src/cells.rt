@@ -1,10 +1,13 @@
-//! Cells in which blocks of a product lie: many read a block where it is, and one puts it there or takes it out.
-ghost use Rattle.std.specs.Prelude.{◌≡◌, ◌+◌, true, All, IfOk, IfSome};
+//! Cells in which blocks of a product lie: one claims a cell and puts a block there, many read it where it is, and one takes it out.
+//!
+//! A cell is `FREE` until it is claimed, `MARKED` while it is claimed and has no block, `PRESENT` while its block stands, and `TAKEN` for the
+//! moment of a change. From `MARKED` it goes back to `FREE` where a claim is given back.
+ghost use Rattle.std.specs.Prelude.{◌≡◌, ◌<◌, ◌+◌, true, All, IfOk, IfSome};
 ghost use Rattle.counted_slot.specs.Counting.{IsTurn};
 ghost use Rattle.grb_jobs.specs.Blocks.{IsBlock};
 
 use crate::inputs::Inputs;
-use counted_slot::{Claim, Counted, FREE, Fits, MOST_READERS, ONE_READER, PRESENT, TAKEN};
+use counted_slot::{Claim, Counted, FREE, Fits, MARKED, MOST_READERS, ONE_READER, PRESENT, TAKEN};
 use grb_sparse::SparseMatrix;
 use std::alloc::{AllocError, Global};
 use std::snapshot::Snapshot;
@@ -66,27 +69,41 @@ pub(crate) fn read(cell: &Cell) -> Option<Claim<'_, Option<Block>>>
     Some(claim)
 }
 
-/// Puts a block in a cell, unless one stands there or is being put there, and says whether it did.
-pub(crate) fn put(cell: &Cell, block: Block) -> bool
-    requires { IsBlock cell.now.value block.from block.upto block.made }
+/// Takes a cell from one state to another, puts this in it, and answers what was there; none, where it is in another state.
+fn change(cell: &Cell, old: u64, block: Option<Block>, new: u64) -> Option<Option<Block>>
+    requires old { old < 3 }
+    requires new { new < 3 }
+    requires block { IfSome block (λ b. IsBlock cell.now.value b.from b.upto b.made) }
+    ensures { IfSome result (λ was. IfSome was (λ b. IsBlock cell.now.value b.from b.upto b.made)) }
 {
-    let (found, claim) = cell.turn(FREE, TAKEN);
-    if found != FREE {
-        claim.done();
-        return false;
-    }
-    let _ = claim.put(Some(block), PRESENT);
-    true
-}
-
-/// Takes the block out of a cell; none where there is none, or someone reads it at the moment.
-pub(crate) fn take(cell: &Cell) -> Option<Block>
-    ensures { IfSome result (λ block. IsBlock cell.now.value block.from block.upto block.made) }
-{
-    let (found, claim) = cell.turn(PRESENT, TAKEN);
-    if found != PRESENT {
+    let (found, claim) = cell.turn(old, TAKEN);
+    if found != old {
         claim.done();
         return None;
     }
-    claim.put(None, FREE)
+    Some(claim.put(block, new))
+}
+
+/// Claims a cell that no one has claimed, and says whether it did.
+pub(crate) fn claim(cell: &Cell) -> bool {
+    cell.load() == FREE && change(cell, FREE, None, MARKED).is_some()
+}
+
+/// Gives back a claim of which no block was made: then another may claim the cell.
+pub(crate) fn give_back(cell: &Cell) {
+    let _ = change(cell, MARKED, None, FREE);
+}
+
+/// Puts a block in a cell that was claimed, unless one stands there or it changes at the moment, and says whether it did.
+pub(crate) fn put(cell: &Cell, block: Block) -> bool
+    requires { IsBlock cell.now.value block.from block.upto block.made }
+{
+    change(cell, MARKED, Some(block), PRESENT).is_some()
+}
+
+/// Takes the block out of a cell, which stays claimed; none where there is none, or someone reads it at the moment.
+pub(crate) fn take(cell: &Cell) -> Option<Block>
+    ensures { IfSome result (λ block. IsBlock cell.now.value block.from block.upto block.made) }
+{
+    change(cell, PRESENT, None, MARKED)?
 }

@@ -7,7 +7,6 @@ ghost use Rattle.grb_core.specs.Entries.{cell_cmp};
 ghost use Rattle.grb_lists.specs.Cells.{decoded};
 ghost use Rattle.grb_jobs.specs.Blocks.{IsReady, whole_of};
 
-use crate::same::{is_same_matrix, is_same_semiring};
 use grb_core::Semiring;
 use grb_lists::FlatRows;
 use grb_sparse::SparseMatrix;
@@ -50,6 +49,16 @@ fn share_mask(mask: Option<&SparseMatrix>) -> Result<Option<SparseMatrix>, Alloc
     }
 }
 
+/// Whether two semirings are the same.
+fn is_same_semiring(a: Semiring, b: Semiring) -> bool
+    ensures { result ≡ true → a ≡ b }
+{
+    if a.monoid() != b.monoid() {
+        return false;
+    }
+    a.op() == b.op()
+}
+
 /// Whether two masks are the same, where they are assembled; two that are not there are.
 fn is_same_mask(a: &Option<SparseMatrix>, b: &Option<SparseMatrix>) -> bool
     requires a { IfSome a.now (λ m. m.assembled ≡ true) }
@@ -57,7 +66,7 @@ fn is_same_mask(a: &Option<SparseMatrix>, b: &Option<SparseMatrix>) -> bool
     ensures { result ≡ true → option_map (λ m. m.matrix.entries) a.now ≡ option_map (λ m. m.matrix.entries) b.now }
 {
     match (a, b) {
-        (Some(a), Some(b)) => is_same_matrix(a, b),
+        (Some(a), Some(b)) => a.is_same(b),
         (None, None) => true,
         _ => false,
     }
@@ -114,10 +123,10 @@ impl Inputs {
         if !is_same_mask(&self.mask, &other.mask) {
             return false;
         }
-        if !is_same_matrix(&self.first, &other.first) {
+        if !self.first.is_same(&other.first) {
             return false;
         }
-        is_same_matrix(&self.second, &other.second)
+        self.second.is_same(&other.second)
     }
 
     /// The flat lists of the mask that bounds the product, if there is one.

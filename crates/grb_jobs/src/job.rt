@@ -2,10 +2,10 @@
 ghost use Rattle.std.specs.Prelude.{◌≡◌, ◌<◌, ◌≤◌, All, IfOk, IfSome};
 ghost use Rattle.grb_jobs.specs.Blocks.{IsBlock};
 
-use crate::cells::{Block, Cell, cells_for, put};
+use crate::cells::{Block, Cell, cells_for, claim, give_back, put};
 use crate::inputs::Inputs;
 use crate::joined::block_of;
-use counted_slot::{Counted, FREE};
+use counted_slot::{Counted, FREE, MARKED};
 use std::alloc::{AllocError, Global};
 use std::snapshot::Snapshot;
 use std::sync::atomic::{AtomicU64, Ordering};
@@ -17,12 +17,12 @@ pub(crate) struct Job {
     pub(crate) inputs: Inputs,
     /// The row with which each block begins, and at last the number of rows.
     cuts: Vec<u64>,
-    /// The first block that no one has claimed.
-    next: AtomicU64,
-    /// How many put all rows together at the moment.
+    /// How many blocks were put in their cells.
+    pub(crate) kept: AtomicU64,
+    /// How many read the product at the moment.
     pub(crate) readers: AtomicU64,
     pub(crate) cells: Vec<Cell>,
-    /// All rows, as soon as one has put them together.
+    /// All rows, as soon as one has put them together. It is claimed and stays empty where the job was given up.
     pub(crate) whole: Cell,
     ghost tied: { All (λ tag. tag.value ≡ inputs) cells.items },
     ghost whole_tied: { whole.value ≡ inputs },
@@ -41,33 +41,57 @@ impl Job {
             alloc,
             inputs,
             cuts,
-            next: AtomicU64::new(0),
+            kept: AtomicU64::new(0),
             readers: AtomicU64::new(0),
             cells,
             whole,
         })
     }
 
-    /// Claims a block, if it is the first that no one has claimed.
+    /// Claims the block of a cell, if no one has claimed it.
     pub(crate) fn claims(&self, k: usize) -> bool {
-        let k = k as u64;
-        let claimed = self
-            .next
-            .compare_exchange(k, k.saturating_add(1), Ordering::SeqCst, Ordering::SeqCst);
-        claimed.is_ok()
+        match self.cells.get(k) {
+            Some(cell) => claim(cell),
+            None => false,
+        }
     }
 
-    /// Whether the block of a cell stands, or is being put there or taken out.
+    /// Gives back a claim on the block of a cell.
+    pub(crate) fn give_back(&self, k: usize) {
+        if let Some(cell) = self.cells.get(k) {
+            give_back(cell);
+        }
+    }
+
+    /// Whether the block of a cell stands, or its cell changes at the moment.
     fn stands(&self, k: usize) -> bool {
         match self.cells.get(k) {
-            Some(cell) => cell.load() != FREE,
+            Some(cell) => {
+                let word = cell.load();
+                word != FREE && word != MARKED
+            }
             None => true,
         }
     }
 
-    /// Whether all rows were put together: then no one needs the job.
-    pub(crate) fn is_done(&self) -> bool {
+    /// Gives the job up, unless all rows were put together: then no one comes to it, and who needs it makes it without help.
+    pub(crate) fn give_up(&self) {
+        let _ = claim(&self.whole);
+    }
+
+    /// Whether it was given up.
+    pub(crate) fn is_given_up(&self) -> bool {
+        self.whole.load() == MARKED
+    }
+
+    /// Whether all rows were put together, or the job was given up: then no one is to help.
+    fn is_done(&self) -> bool {
         self.whole.load() != FREE
+    }
+
+    /// Whether no one is to come to it: it was given up, or all rows were put together and all who came have the product.
+    pub(crate) fn is_over(&self) -> bool {
+        self.is_given_up() || self.is_done() && self.readers.load(Ordering::SeqCst) == 0
     }
 
     /// Where the block ends that has a row.
@@ -115,14 +139,19 @@ impl Job {
         }
     }
 
-    /// Makes the block of a cell and puts it there, and says whether it did. `AllocError` where memory is refused; then nothing is made.
+    /// Makes the block of a cell that is claimed and puts it there, and says whether it did. `AllocError` where memory is refused; then
+    /// nothing is made, and the claim is given back.
     fn make(&self, k: usize, from: u64) -> Result<bool, AllocError>
         requires { from < self.now.inputs.nrows }
     {
         let upto = self.end_of(k, from);
-        let made = block_of(self.alloc, &self.inputs, from, upto)?;
-        let block = Block { from, upto, made };
-        Ok(self.keep(k, block))
+        match block_of(self.alloc, &self.inputs, from, upto) {
+            Ok(made) => Ok(self.keep(k, Block { from, upto, made })),
+            Err(refused) => {
+                self.give_back(k);
+                Err(refused)
+            }
+        }
     }
 
     /// Puts a block in its cell, and says whether it did.
@@ -132,10 +161,12 @@ impl Job {
         let Some(cell) = self.cells.get(k) else {
             return false;
         };
+        let _ = self.kept.fetch_add(1, Ordering::SeqCst);
         put(cell, block)
     }
 
-    /// Claims the next block that no one has claimed, and answers which, and where it begins; none, where all are claimed or the job is done.
+    /// Claims the first block that no one has claimed, and answers which, and where it begins; none, where all are claimed or no one is to
+    /// help.
     fn claim(&self) -> Option<(usize, u64)>
         ensures { IfSome result (λ claimed. claimed.1 < self.now.inputs.nrows) }
     {
@@ -143,15 +174,14 @@ impl Job {
             return None;
         }
         let (nrows, _ncols) = self.inputs.dims();
-        let k = self.next.fetch_add(1, Ordering::SeqCst);
-        if k >= self.cells.len() as u64 {
-            return None;
+        'cells: for k in 0..self.cells.len() {
+            if let Some(from) = self.cuts.get(k) {
+                if *from < nrows && self.claims(k) {
+                    return Some((k, *from));
+                }
+            }
         }
-        let from = *self.cuts.get(k as usize)?;
-        if from >= nrows {
-            return None;
-        }
-        Some((k as usize, from))
+        None
     }
 
     /// Makes the next block that no one has claimed, and answers how many it put, one or none; `None` where there was no such block, or
@@ -176,15 +206,17 @@ impl Job {
         count
     }
 
-    /// Makes blocks that no one has claimed, until the block of a cell stands or all are claimed.
-    pub(crate) fn help_before(&self, k: usize, made: &AtomicU64) {
+    /// Makes blocks that no one has claimed, until the block of a cell stands, and says whether it does: it does not, where all are claimed,
+    /// or memory is refused.
+    pub(crate) fn help_before(&self, k: usize, made: &AtomicU64) -> bool {
         for _ in 0..self.cells.len() {
             if self.stands(k) {
-                return;
+                return true;
             }
             if self.help_once(made).is_none() {
-                return;
+                return false;
             }
         }
+        self.stands(k)
     }
 }

@@ -3,7 +3,7 @@ ghost use Rattle.std.specs.Prelude.{◌≡◌, ◌<◌, ◌≤◌, true, IfOk, I
 ghost use Rattle.grb_jobs.specs.Blocks.{IsBlock, whole_of};
 ghost use Rattle.grb_jobs.specs.Lists.{IsSoFar};
 
-use crate::cells::{Block, Cell, put, read, take};
+use crate::cells::{Block, Cell, claim, put, read, take};
 use crate::inputs::Inputs;
 use crate::job::Job;
 use crate::joined::{add_own, add_rows, finished, nothing_of};
@@ -77,6 +77,7 @@ fn put_whole(inputs: &Inputs, cell: &Cell, made: &SparseMatrix) -> bool
         upto: nrows,
         made: copy,
     };
+    let _ = claim(cell);
     put(cell, block)
 }
 
@@ -113,7 +114,7 @@ impl Job {
 
     /// Puts rows after those so far, and answers where they end: all of a block that is claimed here; else those of the block where it
     /// stands, or a part of them that is made in place. It counts in `counter` the blocks that are made. `AllocError` where memory is
-    /// refused; then nothing is made.
+    /// refused; then nothing is made, and the claim is given back.
     fn go_on<T: InBits + Folded + Drop>(
         &self,
         k: usize,
@@ -135,11 +136,20 @@ impl Job {
             }
         }
         let upto = self.reach(k, from, claimed);
-        let all = add_own::<T>(self.alloc, &self.inputs, from, upto, made)?;
-        if self.block_at(k, upto) != k {
-            let _ = counter.fetch_add(1, Ordering::SeqCst);
+        match add_own::<T>(self.alloc, &self.inputs, from, upto, made) {
+            Ok(all) => {
+                if self.block_at(k, upto) != k {
+                    let _ = counter.fetch_add(1, Ordering::SeqCst);
+                }
+                Ok((upto, all))
+            }
+            Err(refused) => {
+                if claimed {
+                    self.give_back(k);
+                }
+                Err(refused)
+            }
         }
-        Ok((upto, all))
     }
 
     /// All rows, where another has put them together already.
@@ -182,10 +192,11 @@ impl Job {
         let mut made = nothing_of::<T>(self.alloc, &self.inputs);
         let mut at: u64 = 0;
         let mut k: usize = 0;
+        let mut helps = true;
         'turns: while at < nrows {
             let claimed = self.claims(k);
             if !claimed {
-                self.help_before(k, counter);
+                helps = helps && self.help_before(k, counter);
                 if let Some(whole) = self.found_whole() {
                     return Ok(whole);
                 }
@@ -212,14 +223,20 @@ impl Job {
         }
     }
 
-    /// The product. It counts in `counter` the blocks that are made here. `AllocError` where memory is refused; then nothing is made.
-    pub(crate) fn all(&self, counter: &AtomicU64) -> Result<SparseMatrix, AllocError>
-        ensures matrix { IfOk result (λ made. made.matrix ≡ whole_of self.now.inputs) }
-        ensures assembled { IfOk result (λ made. made.assembled ≡ true) }
+    /// The product. It counts in `counter` the blocks that are made here. In the end all rows are put together, or the job is given up. Where
+    /// memory is refused nothing is made: `None` where blocks took some of it, so that the product may be made alone; else `AllocError`.
+    pub(crate) fn all(&self, counter: &AtomicU64) -> Result<Option<SparseMatrix>, AllocError>
+        ensures matrix { IfOk result (λ found. IfSome found (λ made. made.matrix ≡ whole_of self.now.inputs)) }
+        ensures assembled { IfOk result (λ found. IfSome found (λ made. made.assembled ≡ true)) }
     {
         let _ = self.readers.fetch_add(1, Ordering::SeqCst);
         let made = self.all_of(counter);
+        self.give_up();
         let _ = self.readers.fetch_sub(1, Ordering::SeqCst);
-        made
+        match made {
+            Ok(whole) => Ok(Some(whole)),
+            Err(_) if self.kept.load(Ordering::SeqCst) > 0 => Ok(None),
+            Err(refused) => Err(refused),
+        }
     }
 }

@@ -39,12 +39,12 @@ fn product_by(
     ensures matrix { IfOk result (λ made. made.matrix ≡ record { domain = a.now.matrix.domain; nrows = a.now.matrix.nrows; ncols = b.now.matrix.ncols; entries = selected_product semiring structure (option_map (λ m. m.now.matrix.entries) mask.entry) a.now.matrix.entries b.now.matrix.entries }) }
     ensures assembled { IfOk result (λ made. made.assembled ≡ true) }
 {
-    if let Some(made) = board.product(semiring, structure, mask, a, b) {
+    if let Some(made) = board.product(semiring, structure, mask, a, b)? {
         return Ok(made);
     }
     let bound = bounding_lists(mask, false);
-    let made = product(alloc, semiring, structure, bound, a, b)?;
-    Ok(made)
+    let alone = product(alloc, semiring, structure, bound, a, b)?;
+    Ok(alone)
 }
 
 /// The same of two matrices as they are read. `AllocError` where memory is refused; then nothing is made.
@@ -81,8 +81,8 @@ fn product_read(
 }
 
 /// The product of two matrices, written into `output`, as `grb_mxm::mxm` makes it. Where there is a board and the product is dear, those who
-/// come to it at one time make it together, by blocks of rows, and none of them waits; where memory is refused for that, it is made as
-/// without a board. `AllocError` where memory is refused; then nothing is made, and `output` is as before.
+/// come to it at one time make it together, by blocks of rows, and none of them waits; where memory is refused for what that takes besides the
+/// product, it is made as without a board. `AllocError` where memory is refused; then nothing is made, and `output` is as before.
 ///
 /// Source: GraphBLAS C API 2.0, "mxm"; that it is made together is our own.
 pub fn multiply(

@@ -72,6 +72,13 @@ are_since cs n f since (o ∷ os) (m ∷ ms) links = (subst (λ (k : ℕ). IsSin
 apart_object : (o p : Object) → is_same_object o p ≡ false → o ≢ p
 apart_object o p apart e = let same : is_same_object o p ≡ true = subst (λ (q : Object). is_same_object o q ≡ true) e (is_same_object-self o) in cc
 
+-- a count of objects is no more than the calls, of one call more
+pub still_few : (f : ObjectShapes → ℕ) (u v w : ObjectShapes) (c : Call) (xs ys zs : List Node) (x : Node) → f (shapes_after v c) ≤ f v + 1 → v ≡ u → w ≡ shapes_after v c →
+    ys ≡ xs → zs ≡ ys ++ x ∷ [] → f u ≤ length xs → f w ≤ length zs
+still_few f u v w c xs ys zs x grows same shaped reserved pushed few =
+    let more : length zs ≡ length ys + 1 = ap length pushed ∙ length_push ys x in
+    omega (arith, grows, ap f same, ap f shaped, ap length reserved, more, few)
+
 -- one call more is learnt
 module _ (cs : List Call) (old new : Learnt) (c : Call) (node : Node) (was : IsLearnt cs old) (here : slice_get cs (length old.nodes.items) ≡ Some c)
     (target : node.target ≡ effective_target old.shapes.objects c) (links : AreLinks (last_of old.lasts) (objects_needed c) node.links)

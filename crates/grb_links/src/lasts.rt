@@ -1,5 +1,5 @@
 //! After how many calls each object was last changed.
-ghost use Rattle.std.specs.Prelude.{◌≡◌, ◌<◌, ◌≤◌, ◌==◌, ℕ, Some, if◌then◌else◌, length, map, slice_get, IfOk, OnOk, OnErr};
+ghost use Rattle.std.specs.Prelude.{◌≡◌, ◌<◌, ◌≤◌, ◌==◌, ℕ, Some, if◌then◌else◌, length, map, slice_get, OnOk, OnErr};
 ghost use Rattle.std.specs.Option.{option_map_or};
 ghost use Rattle.grb_call.specs.Operands.{objects_read};
 ghost use Rattle.grb_call.specs.Status.{is_same_object};
@@ -46,14 +46,14 @@ fn put_at(lasts: &mut [u32], number: u32, count: u32)
 }
 
 impl Lasts {
-    /// No object was changed, with room for so many of each sort. `AllocError` where memory is refused.
-    pub fn open(alloc: Global, room: u32) -> Result<Lasts, AllocError>
-        ensures { IfOk result (λ l. (o : Object) → last_of l o ≡ 0) }
+    /// No object was changed. Takes no memory.
+    pub fn open(alloc: Global) -> Lasts
+        ensures { (o : Object) → last_of result o ≡ 0 }
     {
-        Ok(Lasts {
-            matrices: Vec::with_capacity(alloc, room as usize)?,
-            vectors: Vec::with_capacity(alloc, room as usize)?,
-        })
+        Lasts {
+            matrices: Vec::new(alloc),
+            vectors: Vec::new(alloc),
+        }
     }
 
     /// After how many calls the object was last changed. Takes no memory.

@@ -1,11 +1,12 @@
 //! The calls of a list, learnt one after another.
-ghost use Rattle.std.specs.Prelude.{true, ◌≡◌, ◌+◌, ◌<◌, ◌≤◌, ◌^◌, Some, List, length, slice_get, IfOk, IfSome, OnOk, OnErr};
+ghost use Rattle.std.specs.Prelude.{true, ◌≡◌, ◌⊎◌, ◌+◌, ◌<◌, ◌≤◌, ◌^◌, Some, List, length, slice_get, IfSome, OnOk, OnErr};
 ghost use Rattle.grb_call.specs.declared.call.Call.{Call};
 ghost use Rattle.grb_call.specs.Shapes.{is_live};
 
 use crate::lasts::Lasts;
 use crate::node::Node;
-use crate::shape::{Shape, make_room, note, shape_needed, shape_noted};
+use crate::nodes::Nodes;
+use crate::shape::{Shape, absorb, make_room, note, shape_needed, shape_noted};
 use grb_call::{Call, MatrixId, Object, Shapes, VectorId};
 use grb_slices::target_at;
 use std::alloc::{AllocError, Global};
@@ -16,55 +17,57 @@ use std::alloc::{AllocError, Global};
 pub struct Learnt {
     alloc: Global,
     shapes: Shapes,
-    nodes: Vec<Node>,
+    nodes: Nodes,
     shapes_noted: Vec<Shape>,
     lasts: Lasts,
     ghost fewer: { length shapes_noted.items ≤ length nodes.items },
+    ghost matrices: { length shapes.objects.matrices ≤ length nodes.items },
+    ghost vectors: { length shapes.objects.vectors ≤ length nodes.items },
 }
 
 impl Learnt {
     ghost use Rattle.grb_links.specs.Lasts.{last_of};
     ghost use Rattle.grb_links.specs.Learnt.{IsLearnt, IsShapeAt, Follows};
 
-    /// No call was learnt, and at most so many may be. `AllocError` where memory is refused.
-    pub fn open(alloc: Global, room: u32) -> Result<Learnt, AllocError>
-        ensures learnt { IfOk result (λ t. (cs : List Call) → IsLearnt cs t) }
-        ensures room { IfOk result (λ t. t.shapes.room ≡ room) }
-        ensures none { IfOk result (λ t. length t.nodes.items ≡ 0) }
+    /// No call was learnt. Takes no memory.
+    pub fn open(alloc: Global) -> Learnt
+        ensures learnt { (cs : List Call) → IsLearnt cs result }
+        ensures none { length result.nodes.items ≡ 0 }
     {
-        Ok(Learnt {
+        Learnt {
             alloc,
-            shapes: Shapes::open(alloc, room)?,
-            nodes: Vec::with_capacity(alloc, 0)?,
-            shapes_noted: Vec::with_capacity(alloc, 0)?,
-            lasts: Lasts::open(alloc, 0)?,
-        })
+            shapes: Shapes::empty(alloc),
+            nodes: Nodes::new(alloc),
+            shapes_noted: Vec::new(alloc),
+            lasts: Lasts::open(alloc),
+        }
     }
 
     /// Learns the call that comes after those learnt. `AllocError` where memory is refused; then it is not learnt.
     pub fn learn(&mut self, call: &Call) -> Result<(), AllocError>
-        requires room { 0 < self.old.shapes.room }
-        requires few { length self.old.nodes.items + self.old.shapes.room < 2 ^ 32 }
+        requires few { length self.old.nodes.items + 1 < 2 ^ 32 }
         ensures learnt { OnOk result ((cs : List Call) → IsLearnt cs self.old → slice_get cs (length self.old.nodes.items) ≡ Some call.now → IsLearnt cs self.new) }
         ensures err { OnErr result ((cs : List Call) → IsLearnt cs self.old → IsLearnt cs self.new) }
         ensures more { OnOk result (length self.new.nodes.items ≡ length self.old.nodes.items + 1) }
-        ensures room { OnOk result (self.new.shapes.room + 1 ≡ self.old.shapes.room) }
-        ensures no_more { OnErr result ((length self.new.nodes.items ≡ length self.old.nodes.items) × (self.new.shapes.room ≡ self.old.shapes.room)) }
+        ensures no_more { OnErr result (length self.new.nodes.items ≡ length self.old.nodes.items) }
+        ensures lasts { OnOk result ((o : Object) → (last_of self.new.lasts o ≡ last_of self.old.lasts o) ⊎ (last_of self.new.lasts o ≡ length self.old.nodes.items + 1)) }
+        ensures lasts_stay { OnErr result ((o : Object) → last_of self.new.lasts o ≡ last_of self.old.lasts o) }
     {
         let target = target_at(&self.shapes, call);
         let links = self.lasts.links_of(self.alloc, call);
         let shape = shape_needed(&self.shapes, call);
         let count = self.nodes.len() as u32 + 1;
         self.nodes.reserve(1)?;
+        self.shapes.reserve_one()?;
         make_room(&mut self.shapes_noted, shape)?;
         self.lasts.change(target, count)?;
         let noted = note(&mut self.shapes_noted, shape);
-        self.nodes.push_reserved(Node {
+        self.nodes.push(Node {
             target,
             links,
             noted,
         });
-        self.shapes.absorb(call);
+        absorb(&mut self.shapes, call, target);
         Ok(())
     }
 
@@ -73,6 +76,7 @@ impl Learnt {
         ensures learnt { (cs : List Call) → IsLearnt cs self.old → IsLearnt cs self.new }
         ensures nodes { self.new.nodes.items ≡ self.old.nodes.items }
         ensures shapes { self.new.shapes ≡ self.old.shapes }
+        ensures lasts { self.new.lasts ≡ self.old.lasts }
     {
         self.nodes.reserve(more)
     }
@@ -148,18 +152,21 @@ impl Learnt {
     }
 
     /// The node of the call at this place, if it was learnt. Takes no memory.
-    pub fn node(&self, at: usize) -> Option<&Node>
+    pub fn node(&self, at: usize) -> Option<Node>
         ensures { IfSome result (λ node. at < length self.now.nodes.items) }
     {
         self.nodes.get(at)
     }
 
     /// The node of the call at this place. Takes no memory.
-    pub fn node_at(&self, at: usize) -> &Node
+    pub fn node_at(&self, at: usize) -> Node
         requires { at < length self.now.nodes.items }
-        ensures { slice_get self.now.nodes.items at ≡ Some result.now }
+        ensures { slice_get self.now.nodes.items at ≡ Some result }
     {
-        &self.nodes[at]
+        match self.nodes.get(at) {
+            Some(node) => node,
+            None => unreachable!(),
+        }
     }
 
     /// The shape that was noted for the call at this place, if one was. Takes no memory.

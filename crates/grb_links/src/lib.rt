@@ -13,6 +13,7 @@ mod learnt;
 mod marks;
 mod needed;
 mod node;
+mod nodes;
 mod shape;
 
 pub use costs::{EDIT_WORK, MANY_CALLS, UNKNOWN_WORK, is_short_edit, work_of, work_of_edit};

@@ -1,5 +1,7 @@
 //! The shape of what an object holds, as far as calls need no more of it.
 ghost use Rattle.std.specs.Prelude.{◌≡◌, ◌+◌, ◌<◌, ◌≤◌, ◌^◌, ℕ, true, is_some, length, vec_capacity, vec_len, OnOk};
+ghost use Rattle.grb_call.specs.Refused.{shapes_after};
+ghost use Rattle.grb_slices.specs.Content.{effective_target};
 ghost use Rattle.grb_links.specs.Overwrites.{shape_at, shape_needed, shape_noted};
 
 use crate::needed::forgets;
@@ -84,4 +86,15 @@ pub(crate) fn shape_noted(noted: &[Shape], count: u32) -> Option<Shape>
         return None;
     }
     noted.get(count as usize - 1).copied()
+}
+
+/// Takes in a call that has this target on the shapes: it is not checked again. Takes no memory.
+pub(crate) fn absorb(shapes: &mut Shapes, call: &Call, target: Option<Object>)
+    requires room { 0 < shapes.old.room }
+    requires target { target ≡ effective_target shapes.old.objects call.now }
+    ensures { shapes.new.objects ≡ shapes_after shapes.old.objects call.now }
+{
+    if target.is_some() {
+        shapes.absorb_accepted(call);
+    }
 }

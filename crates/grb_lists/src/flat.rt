@@ -11,6 +11,7 @@ ghost use Rattle.grb_core.specs.Results.{row_of};
 ghost use Rattle.grb_lists.specs.Cells.{row_at, codes_of, decoded, entries_within, in_row, IsFlat};
 ghost use Rattle.grb_lists.specs.Stored.{row_entries, started_at, IsCellAt, IsInRow};
 
+use crate::same::{are_same_numbers, are_same_places};
 use crate::values::{self, Values, shrink_list};
 use grb_core::{Domain, Value};
 use std::alloc::{AllocError, Global};
@@ -309,6 +310,23 @@ impl FlatRows {
             Values::Uint64(numbers) => numbers,
             Values::Bool(_) => unreachable!(),
         }
+    }
+
+    /// Whether all lists are known to be the same, each compared whole: of equal entries it may answer no where one is of another domain. Takes
+    /// no memory.
+    pub fn is_same(&self, other: &FlatRows) -> bool
+        ensures { result ≡ true → self.now.entries ≡ other.now.entries }
+    {
+        if !are_same_numbers(&self.rows, &other.rows) {
+            return false;
+        }
+        if !are_same_places(&self.starts, &other.starts) {
+            return false;
+        }
+        if !are_same_numbers(&self.columns, &other.columns) {
+            return false;
+        }
+        self.values.is_same(&other.values)
     }
 
     /// Where the entries of the `k`th row end: there those of the next row begin, or it is the end of all.

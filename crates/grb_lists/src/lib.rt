@@ -12,6 +12,7 @@ mod flat;
 mod made;
 pub mod packed;
 mod runs;
+mod same;
 mod seek;
 mod values;
 

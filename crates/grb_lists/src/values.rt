@@ -1,9 +1,10 @@
 //! The values of one object, in a list of their domain's type.
-ghost use Rattle.std.specs.Prelude.{◌≡◌, ◌+◌, ◌-◌, ◌<◌, ◌≤◌, ◌++◌, [], ◌∷◌, length, map, take, drop, slice_set, slice_index_or, IfOk, OnOk};
+ghost use Rattle.std.specs.Prelude.{◌≡◌, ◌+◌, ◌-◌, ◌<◌, ◌≤◌, ◌++◌, [], ◌∷◌, true, length, map, take, drop, slice_set, slice_index_or, IfOk, OnOk};
 ghost use Rattle.std.specs.Vec.{vec_len, vec_capacity};
 ghost use Rattle.grb_core.specs.Value.{value_domain};
 ghost use Rattle.grb_lists.specs.Values.{values_list, values_domain, values_len, values_capacity};
 
+use crate::same::{are_same_bools, are_same_values};
 use grb_core::{Domain, Value};
 use std::alloc::{AllocError, Global};
 
@@ -207,6 +208,22 @@ impl Values {
         match self {
             Values::Bool(bools) => extend_reserved(bools, &other.bools()[start..end]),
             Values::Uint64(numbers) => extend_reserved(numbers, &other.numbers()[start..end]),
+        }
+    }
+
+    /// Whether the values are the same, of one domain. Takes no memory.
+    pub(crate) fn is_same(&self, other: &Values) -> bool
+        ensures { result ≡ true → values_list self.now ≡ values_list other.now }
+    {
+        match self {
+            Values::Bool(bools) => match other {
+                Values::Bool(others) => are_same_bools(bools, others),
+                Values::Uint64(_) => false,
+            },
+            Values::Uint64(numbers) => match other {
+                Values::Uint64(others) => are_same_values(numbers, others),
+                Values::Bool(_) => false,
+            },
         }
     }
 

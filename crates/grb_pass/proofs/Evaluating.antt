@@ -1,6 +1,6 @@
 -- What a pass has evaluated, as calls are learnt and evaluated.
 use Rattle.std.proofs.Common.{◌≡◌, ℕ, zero, suc, ◌+◌, ◌<◌, ◌≤◌, ◌⊎◌, inl, inr, List, [], ◌∷◌, ◌++◌, length, get_or, take, true, refl, sym, ap, ◌∙◌, subst, arith, length-append}
-use Rattle.grb_pass.proofs.Prelude.{IfSome, OnOk, Result, Ok, Err, slice_get, is_ok, slice_get_within, get_or_from_slice_get, take_more, append-nil, length_push, take-append-le, room_of, Shown, Call, Object, Entry, History, after_all, calls_of, MatrixShape, ObjectShapes, VectorShape, is_live, object_at, empty_store, shapes_of, KeepsAll, AreOneHistory, IsTable, Table, Knowing, Making, known, spelled, Begins, Enters, Learns, IsEvaluatedFor, IsInStep, IsPassState, IsSettledTable, LiesReady, own_learns, length-calls_of, calls_of-append, spelled_push, spelled_more}
+use Rattle.grb_pass.proofs.Prelude.{IfSome, OnOk, Result, Ok, Err, slice_get, is_ok, slice_get_within, get_or_from_slice_get, take_more, append-nil, length_push, take-append-le, Shown, Call, Object, Entry, History, after_all, calls_of, MatrixShape, ObjectShapes, VectorShape, is_live, object_at, empty_store, shapes_of, KeepsAll, AreOneHistory, IsTable, Table, Knowing, Making, known, spelled, Begins, Enters, Learns, IsEvaluatedFor, IsInStep, IsPassState, IsSettledTable, LiesReady, own_learns, length-calls_of, calls_of-append, spelled_push, spelled_more}
 use Rattle.std.specs.Prelude.{is_some, Option, Some, None}
 use Rattle.grb_order.specs.Word.{order_word, number_of}
 use Rattle.grb_call.specs.declared.ids.Object.TheVariants as object
@@ -30,64 +30,62 @@ table_more old new t more is at =
     let n : length (cs ++ es) ≡ length cs + length es = length-append cs es in
     subst (λ (ds : List Call). IsTable ds t) same (table_on cs (cs ++ es) (goes_on cs es) t (omega (arith, at.learnt.within, n)) at)
 
-evaluated_more : (old new : Knowing) (t : Table) (more : History) → new.order ≡ old.order → new.settled ≡ old.settled → known new ≡ known old ++ more → IsEvaluatedFor old t → IsEvaluatedFor new t
-evaluated_more old new t more order settled is at =
+evaluated_more : (old new : Knowing) (t : Table) (more : History) → new.settled ≡ old.settled → known new ≡ known old ++ more → IsEvaluatedFor old t → IsEvaluatedFor new t
+evaluated_more old new t more settled is at =
     let n : length (known new) ≡ length (known old) + length more = ap length is ∙ length-append (known old) more in
     record {
       table = table_more old new t more is at.table;
-      room_is = at.room_is ∙ sym (ap room_of order);
       settled = λ all.
           let before : IsSettledTable old t = at.settled (omega (arith, all, settled, n)) in
           record { all = omega (arith, all, settled, at.within, before.all, n); ready = before.ready };
       within = omega (arith, settled, at.within, n);
     }
 
-pub evaluated_learns : (old new : Knowing) (t : Table) → new.order ≡ old.order → Learns old new → IsEvaluatedFor old t → IsEvaluatedFor new t
-evaluated_learns old new t order l kept = evaluated_more old new t l.learnt order l.settled l.known_is kept
+pub evaluated_learns : (old new : Knowing) (t : Table) → Learns old new → IsEvaluatedFor old t → IsEvaluatedFor new t
+evaluated_learns old new t l kept = evaluated_more old new t l.learnt l.settled l.known_is kept
 
 -- what was left ready lies so
 left_ready : (old new : Knowing) (t : Table) → new.made ≡ old.made → IfSome old.made.ready (LiesReady t) → IfSome new.made.ready (LiesReady t)
 left_ready old new t made lies = subst (λ (m : Making). IfSome m.ready (LiesReady t)) (sym made) lies
 
-pub in_step_learns : (old new : Knowing) (t : Table) → new.order ≡ old.order → Learns old new → new.made ≡ old.made → IsInStep old t → IsInStep new t
-in_step_learns old new t order l made kept = record {
-  evaluated = evaluated_learns old new t order l kept.evaluated;
+pub in_step_learns : (old new : Knowing) (t : Table) → Learns old new → new.made ≡ old.made → IsInStep old t → IsInStep new t
+in_step_learns old new t l made kept = record {
+  evaluated = evaluated_learns old new t l kept.evaluated;
   made = ap (λ (m : Making). m.count) made ∙ kept.made;
   ready = left_ready old new t made kept.ready;
 }
 
-pub state_learns : (old new : Knowing) (e : Table) (next : ℕ) → new.order ≡ old.order → Learns old new → new.made ≡ old.made → IsPassState old e next → IsPassState new e next
-state_learns old new e next order l made is = record { step = in_step_learns old new e order l made is.step; own = own_learns next old new l is.own }
+pub state_learns : (old new : Knowing) (e : Table) (next : ℕ) → Learns old new → new.made ≡ old.made → IsPassState old e next → IsPassState new e next
+state_learns old new e next l made is = record { step = in_step_learns old new e l made is.step; own = own_learns next old new l is.own }
 
 -- a table that was learnt on stays one of a pass
 module _ (p : Knowing) (old new : Table) (is : IsEvaluatedFor p old) where
-  pub evaluated_by : IsTable (calls_of (known p)) new → length new.learnt.nodes.items + new.learnt.shapes.room ≡ length old.learnt.nodes.items + old.learnt.shapes.room → (length (known p) ≤ p.settled → new ≡ old) → IsEvaluatedFor p new
-  evaluated_by table room stays = record {
+  pub evaluated_by : IsTable (calls_of (known p)) new → (length (known p) ≤ p.settled → new ≡ old) → IsEvaluatedFor p new
+  evaluated_by table stays = record {
     table = table;
-    room_is = room ∙ is.room_is;
     settled = λ all. subst (IsSettledTable p) (sym (stays all)) (is.settled all);
     within = is.within;
   }
 
-  pub evaluated_same : IsTable (calls_of (known p)) new → new.learnt ≡ old.learnt → (length (known p) ≤ p.settled → new ≡ old) → IsEvaluatedFor p new
-  evaluated_same table learnt stays = evaluated_by table (ap (λ (l : Learnt). length l.nodes.items + l.shapes.room) learnt) stays
-
-  -- where no result is lost
-  pub evaluated_kept : IsTable (calls_of (known p)) new → new.learnt ≡ old.learnt → KeepsAll old new → IsEvaluatedFor p new
+  -- where no result is lost, once all are settled
+  pub evaluated_kept : IsTable (calls_of (known p)) new → new.learnt ≡ old.learnt → (length (known p) ≤ p.settled → KeepsAll old new) → IsEvaluatedFor p new
   evaluated_kept table learnt keeps = record {
     table = table;
-    room_is = ap (λ (l : Learnt). length l.nodes.items + l.shapes.room) learnt ∙ is.room_is;
     settled = λ all.
         let before : IsSettledTable p old = is.settled all in
         record {
           all = ap (λ (l : Learnt). length l.nodes.items) learnt ∙ before.all;
-          ready = subst (λ (l : Learnt). ((o : Object) → is_live l.shapes.objects o ≡ true → IsReady new o)) (sym learnt) (λ o live. still (before.ready o live));
+          ready = subst (λ (l : Learnt). ((o : Object) → is_live l.shapes.objects o ≡ true → IsReady new o)) (sym learnt) (λ o live. still (keeps all) (before.ready o live));
         };
     within = is.within;
   }
     where
-      still : {o : Object} → IsReady old o → IsReady new o
-      still {o} r = record { at = r.at; content = r.content; last = subst (λ (l : Learnt). last_of l.lasts o ≡ suc r.at) (sym learnt) r.last; kept = keeps r.at r.content r.kept; assembled = r.assembled }
+      still : {o : Object} → KeepsAll old new → IsReady old o → IsReady new o
+      still {o} same r = record { at = r.at; content = r.content; last = subst (λ (l : Learnt). last_of l.lasts o ≡ suc r.at) (sym learnt) r.last; kept = same r.at r.content r.kept; assembled = r.assembled }
+
+-- where the results are the same, once all are settled
+pub evaluated_alike : (p : Knowing) (t u : Table) → IsEvaluatedFor p t → IsTable (calls_of (known p)) u → u.learnt ≡ t.learnt → (length (known p) ≤ p.settled → u.results ≡ t.results) → IsEvaluatedFor p u
+evaluated_alike p t u is table learnt same = evaluated_kept p t u is table learnt (λ all k v kept. ap (λ rs. slice_get rs.items k) (same all) ∙ kept)
 
 no_slots : (X : Type 0) (n : ℕ) → is_some (object_at {X = X} [] n) ≡ true → ⊥
 no_slots X n e = cc
@@ -114,22 +112,30 @@ none_settled p t is none =
 
 -- how many calls were made bears on nothing
 pub table_begun : (cs : List Call) (t : Table) → IsTable cs t → IsTable cs (record t { made = 0 })
-table_begun cs t is = record { learnt = is.learnt; results = is.results; places = is.places }
+table_begun cs t is = record { learnt = is.learnt; results = is.results; places = is.places; settled = is.settled; within = is.within }
+
+ready_begun : (t : Table) (o : Object) → IsReady t o → IsReady (record t { made = 0 }) o
+ready_begun t o r = record { at = r.at; content = r.content; last = r.last; kept = r.kept; assembled = r.assembled }
+
+pub evaluated_begun : (p : Knowing) (t : Table) → IsEvaluatedFor p t → IsEvaluatedFor p (record t { made = 0 })
+evaluated_begun p t is = record {
+  table = table_begun (calls_of (known p)) t is.table;
+  settled = λ all. let before : IsSettledTable p t = is.settled all in record { all = before.all; ready = λ o live. ready_begun t o (before.ready o live) };
+  within = is.within;
+}
 
 -- where all results were dropped
-pub evaluated_released : (p q : Knowing) (t u : Table) → q ≡ record p { settled = 0; made = q.made } → IsEvaluatedFor p t → IsTable (calls_of (known p)) u → u.learnt ≡ t.learnt → IsEvaluatedFor q u
-evaluated_released p q t u same is table learnt = subst (λ (k : Knowing). IsEvaluatedFor k u) (sym same) (record {
+pub evaluated_released : (p q : Knowing) (u : Table) → q ≡ record p { settled = 0; made = q.made } → IsTable (calls_of (known p)) u → IsEvaluatedFor q u
+evaluated_released p q u same table = subst (λ (k : Knowing). IsEvaluatedFor k u) (sym same) (record {
   table = table;
-  room_is = ap (λ (l : Learnt). length l.nodes.items + l.shapes.room) learnt ∙ is.room_is;
   settled = λ none. let all : IsSettledTable p u = none_settled p u table none in record { all = all.all; ready = all.ready };
   within = omega arith;
 })
 
 -- a new pass
-pub evaluated_opened : (p : Knowing) (t : Table) → ((cs : List Call) → IsTable cs t) → length t.learnt.nodes.items ≡ 0 → t.learnt.shapes.room ≡ room_of p.order → p.settled ≡ 0 → IsEvaluatedFor p t
-evaluated_opened p t is none room settled = record {
+pub evaluated_opened : (p : Knowing) (t : Table) → ((cs : List Call) → IsTable cs t) → p.settled ≡ 0 → IsEvaluatedFor p t
+evaluated_opened p t is settled = record {
   table = is (calls_of (known p));
-  room_is = omega (arith, none, room);
   settled = λ all. none_settled p t (is (calls_of (known p))) (omega (arith, all, settled));
   within = omega (arith, settled);
 }
@@ -146,16 +152,16 @@ tried room old new token (Some back) is all =
     let few : length old.shown ≤ length old.view.words = omega arith in let word : ℕ = is.2 in
     ([], (λ i. spelled ((is.3 i).words) (is.1 i)) ∙ spelled_more old.view.words (word ∷ []) old.shown few ∙ sym (append-nil (known old)))
 
-pub evaluated_tried : (room : ℕ) (old new : Knowing) (token : Shown) (t : Table) (back : Option Shown) → new.order ≡ old.order → new.settled ≡ old.settled → Enters room token old back new → length old.shown ≡ length old.view.words
+pub evaluated_tried : (room : ℕ) (old new : Knowing) (token : Shown) (t : Table) (back : Option Shown) → new.settled ≡ old.settled → Enters room token old back new → length old.shown ≡ length old.view.words
     → IsEvaluatedFor old t → IsEvaluatedFor new t
-evaluated_tried room old new token t back order same is all kept =
+evaluated_tried room old new token t back same is all kept =
     let more : (h : History) × (known new ≡ known old ++ h) = tried room old new token back is all in
-    evaluated_more old new t more.0 order same more.1 kept
+    evaluated_more old new t more.0 same more.1 kept
 
-pub in_step_tried : (room : ℕ) (old new : Knowing) (token : Shown) (t : Table) (back : Option Shown) → new.order ≡ old.order → new.settled ≡ old.settled → new.made ≡ old.made → Enters room token old back new
+pub in_step_tried : (room : ℕ) (old new : Knowing) (token : Shown) (t : Table) (back : Option Shown) → new.settled ≡ old.settled → new.made ≡ old.made → Enters room token old back new
     → length old.shown ≡ length old.view.words → IsInStep old t → IsInStep new t
-in_step_tried room old new token t back order same made is all kept = record {
-  evaluated = evaluated_tried room old new token t back order same is all kept.evaluated;
+in_step_tried room old new token t back same made is all kept = record {
+  evaluated = evaluated_tried room old new token t back same is all kept.evaluated;
   made = ap (λ (m : Making). m.count) made ∙ kept.made;
   ready = left_ready old new t made kept.ready;
 }

@@ -1,6 +1,5 @@
 -- believed: What ties what a pass has evaluated to the calls that it knows (own): a table of results of the first of them.
-use Rattle.std.specs.Prelude.{◌≡◌, ℕ, ◌+◌, ◌≤◌, length, IfSome}
-use Rattle.grb_order.specs.Order.{room_of}
+use Rattle.std.specs.Prelude.{◌≡◌, ℕ, ◌≤◌, length, IfSome}
 use Rattle.grb_call.specs.declared.ids.Object.{Object}
 use Rattle.grb_call.specs.History.{calls_of}
 use Rattle.grb_states.specs.Settled.{AreAllAssembled}
@@ -20,11 +19,10 @@ pub record IsSettledTable (p : Knowing) (t : Table) : Type 0 where
   pub all : length t.learnt.nodes.items ≡ length (known p)
   pub ready : AreReady t
 
--- the table has results of the first of the calls that are known, with room for those to come; where all are settled, each object lies
--- ready; and no more calls are settled than known
+-- the table has results of the first of the calls that are known; where all are settled, each object lies ready; and no more calls are
+-- settled than known
 pub record IsEvaluatedFor (p : Knowing) (t : Table) : Type 0 where
   pub table : IsTable (calls_of (known p)) t
-  pub room_is : length t.learnt.nodes.items + t.learnt.shapes.room ≡ room_of p.order
   pub settled : length (known p) ≤ p.settled → IsSettledTable p t
   pub within : p.settled ≤ length (known p)
 

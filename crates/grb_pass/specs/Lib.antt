@@ -23,6 +23,4 @@ pub use Rattle.grb_reader.specs.Replying
 pub use Rattle.grb_reader.specs.Settled
 pub use Rattle.grb_rebuild.specs.Rebuilding
 pub use Rattle.grb_rebuild.specs.Rebuilt
-pub use Rattle.grb_rebuild.specs.Renumbered
-pub use Rattle.grb_states.specs.Live
 pub use Rattle.grb_states.specs.StoredIn

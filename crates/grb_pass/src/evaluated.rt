@@ -8,7 +8,7 @@ ghost use Rattle.grb_call.specs.declared.call.Call.{Call};
 ghost use Rattle.grb_results.specs.Kept.{IsSameBut, IsTableOf};
 ghost use Rattle.grb_results.specs.Results.{IsTable};
 ghost use Rattle.grb_pass.specs.Evaluated.{IsEvaluatedFor};
-ghost use Rattle.grb_reader.specs.Known.{known};
+ghost use Rattle.grb_reader.specs.Known.{Knowing, known};
 ghost use Rattle.grb_reader.specs.Laws.{Begins};
 
 mod answers;
@@ -17,7 +17,7 @@ mod exchange;
 mod held;
 mod succeeding;
 
-use grb_editions::Versions;
+use grb_editions::{Looked, Versions};
 use grb_objects::Helps;
 use grb_reader::Reader;
 use grb_records::Records;
@@ -38,8 +38,8 @@ pub(crate) struct Evaluated<O: Helps> {
     versions: Arc<Versions>,
     // Whether the context has no other pass.
     alone: bool,
-    // How many calls the longest edition has that was looked at.
-    seen: usize,
+    // Which editions were looked at.
+    looked: Looked,
     // How much work was done when the last call began, and when results were last left to the others.
     begun: u64,
     left: u64,
@@ -54,34 +54,32 @@ impl<O: Helps> Model for Evaluated<O> {
 }
 
 impl<O: Helps> Evaluated<O> {
-    /// No call is evaluated, with room for so many; operations are made on the bench. `AllocError` where memory is refused.
+    /// No call is evaluated; operations are made on the bench. Takes no memory.
     pub(crate) fn open(
         alloc: Global,
-        room: u32,
         versions: Arc<Versions>,
         bench: O,
         alone: bool,
-    ) -> Result<Evaluated<O>, AllocError>
-        ensures table { IfOk result (λ t. (cs : List Call) → IsTable cs t) }
-        ensures room { IfOk result (λ t. t.learnt.shapes.room ≡ room) }
-        ensures none { IfOk result (λ t. length t.learnt.nodes.items ≡ 0) }
-        ensures made { IfOk result (λ t. t.made ≡ 0) }
+    ) -> Evaluated<O>
+        ensures table { (cs : List Call) → IsTable cs result }
+        ensures made { result.made ≡ 0 }
     {
-        Ok(Evaluated {
-            table: Table::open(alloc, room)?,
+        Evaluated {
+            table: Table::open(alloc),
             bench,
             stack: Vec::new(alloc),
             versions,
             alone,
-            seen: 0,
+            looked: Looked::none(),
             begun: 0,
             left: 0,
-        })
+        }
     }
 
     /// Begins to count the calls that are made.
     pub(crate) fn begin(&mut self)
-        ensures { self.new ≡ record self.old { made = 0 } }
+        ensures begun { self.new ≡ record self.old { made = 0 } }
+        ensures evaluated { (p : Knowing) → IsEvaluatedFor p self.old → IsEvaluatedFor p self.new }
     {
         self.table.begin();
         self.begun = self.table.work();
@@ -94,7 +92,8 @@ impl<O: Helps> Evaluated<O> {
         self.table.made()
     }
 
-    /// Learns the known calls that were not learnt. `AllocError` where memory is refused; those learnt until then stay so.
+    /// Learns the known calls that were not learnt. What they ended is let go, and where that was much, by editions too. `AllocError` where
+    /// memory is refused; those learnt until then stay so.
     fn learn(&mut self, records: &Records, reader: &mut Reader) -> Result<(), AllocError>
         requires evaluated { IsEvaluatedFor reader.old self.old }
         requires of { All (IsOf records.now) reader.old.shown }
@@ -104,10 +103,12 @@ impl<O: Helps> Evaluated<O> {
         ensures made { self.new.made ≡ self.old.made }
         ensures memory { OnErr result (reader.old.settled < length (known reader.old)) }
     {
-        let room = reader.room();
+        let _few = reader.room();
         let known = reader.known() as usize;
-        let _few = room;
-        self.table.learn_all(reader, records, known)
+        if self.table.learn_all(reader, records, known)? {
+            self.versions.let_go(&self.table);
+        }
+        Ok(())
     }
 
     /// Keeps also the results that another pass keeps, of calls that both know; what it knows begins what this one knows. No entry is copied.
@@ -128,7 +129,8 @@ impl<O: Helps> Evaluated<O> {
         ensures made { self.new.made ≡ self.old.made }
     {
         if self.learn(records, reader).is_ok() {
-            let _ = self.table.take_from(&other.table);
+            let number = (theirs.number() % 0x1_0000) as u16;
+            let _ = self.table.take_new(&other.table, number);
         }
     }
 
@@ -137,11 +139,23 @@ impl<O: Helps> Evaluated<O> {
         self.bench.help()
     }
 
-    /// Drops all results.
+    /// Drops all results. What others left is looked at again.
     pub(crate) fn release(&mut self)
         ensures table { (cs : List Call) → IsTable cs self.old → IsTable cs self.new }
         ensures same { IsSameBut self.old self.new }
     {
         self.table.release();
+        self.looked.clear();
+    }
+
+    /// How many objects, results and calls were looked at so far without that one of them was made: by waits for all, in what other passes have
+    /// evaluated, and in editions. No contract says more.
+    pub(crate) fn looks(&self) -> u64 {
+        self.table.looks().saturating_add(self.looked.compared())
+    }
+
+    /// How many entries the results have that are kept, and those of the editions. No contract says more.
+    pub(crate) fn entries(&self) -> (u64, u64) {
+        (self.table.entries(), self.versions.entries())
     }
 }

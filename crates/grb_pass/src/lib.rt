@@ -19,6 +19,6 @@ mod shared;
 mod succeed;
 
 pub use grb_reader::LiveObjects;
-pub use grb_rebuild::{NoSuccessor, Renumbered};
+pub use grb_rebuild::NoSuccessor;
 pub use pass::Pass;
 pub use shared::Shared;

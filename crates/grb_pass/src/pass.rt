@@ -1,20 +1,19 @@
 //! A pass: one thread's way into the history, with what it knows, has evaluated and was answered.
-ghost use Rattle.std.specs.Prelude.{◌≡◌, ℕ, ◌<◌, ◌≤◌, ◌+◌, ◌^◌, ◌==◌, ◌⊎◌, false, true, None, Some, length, All, IfOk, IfErr, IfSome, MatchOption, OnErr};
+ghost use Rattle.std.specs.Prelude.{◌≡◌, ℕ, ◌<◌, ◌≤◌, ◌+◌, ◌^◌, ◌==◌, ◌⊎◌, false, true, None, Some, Ok, length, All, IfOk, IfErr, IfSome, MatchOption, OnErr};
 ghost use Rattle.grb_order.specs.declared.limits.TheConstants.{MOST_PASSES, MOST_ROOM, MOST_WORDS};
 ghost use Rattle.grb_order.specs.View.{fresh, LookedLast};
 ghost use Rattle.grb_order.specs.Order.{room_of};
 ghost use Rattle.grb_records.specs.Token.{IsOf};
 ghost use Rattle.grb_call.specs.Kinds.{enters, is_build, is_size};
 ghost use Rattle.grb_call.specs.Refused.{is_in_bounds, refused_by_shapes};
+ghost use Rattle.grb_call.specs.Shapes.{is_live};
 ghost use Rattle.grb_call.specs.Store.{shapes_of};
 ghost use Rattle.grb_call.specs.After.{refused};
 ghost use Rattle.grb_call.specs.History.{store_of};
 ghost use Rattle.grb_call.specs.Status.{object_of};
 ghost use Rattle.grb_call.specs.Statuses.{status_at};
-ghost use Rattle.grb_states.specs.Live.{live_store};
 ghost use Rattle.grb_states.specs.StoredIn.{IsMatrixOf, IsVectorOf};
 ghost use Rattle.grb_rebuild.specs.Rebuilding.{IsRebuild};
-ghost use Rattle.grb_rebuild.specs.Renumbered.{AreRenumbered};
 ghost use Rattle.grb_pass.specs.Chosen.{IsNoSuccessor, MayHaveRoom, NamesChosen, NamesLive, chosen_store, room_beside};
 ghost use Rattle.grb_pass.specs.Evaluated.{IsAssembled};
 ghost use Rattle.grb_reader.specs.Known.{known, new_pass, none_made};
@@ -25,7 +24,7 @@ ghost use Rattle.grb_reader.specs.Cells.{OwnBelow};
 ghost use Rattle.grb_reader.specs.LiveNumbers.{AreLiveObjects};
 ghost use Rattle.grb_reader.specs.Reading.{IsBuildChecked, IsChecked, count_call, count_of_output};
 ghost use Rattle.grb_reader.specs.Replying.{IsReplied, ReadsStore, statuses_with};
-ghost use Rattle.grb_reader.specs.Settled.{is_materialize, waited_for, LeavesReady, MayLackMatrix, MayLackVector};
+ghost use Rattle.grb_reader.specs.Settled.{is_materialize, waited_for, IsLeftReady, LeavesReady, MayLackMatrix, MayLackVector};
 
 use crate::evaluated::Evaluated;
 use grb_call::{Call, Class, Kind, MatrixId, Object, Reply, VectorId, WaitMode};
@@ -34,7 +33,7 @@ use grb_editions::Versions;
 use grb_objects::Helps;
 use grb_order::{Order, Seat};
 use grb_reader::{BackOff, LiveObjects, Reader, RecordRow};
-use grb_rebuild::{NoSuccessor, Rebuild, Renumbered};
+use grb_rebuild::{NoSuccessor, Rebuild};
 use grb_records::{Records, Token};
 use grb_sparse::{SparseMatrix, SparseVector};
 use grb_states::State;
@@ -111,10 +110,9 @@ impl<O: Helps> Pass<O> {
         ensures { IfOk result (λ pass. pass ≡ new_pass seat.table_id seat.view) }
     {
         let reader = Reader::open(alloc, number, seat, room)?;
-        let evaluated = Evaluated::open(alloc, room, versions, bench, alone)?;
         Ok(Pass {
             reader,
-            evaluated,
+            evaluated: Evaluated::open(alloc, versions, bench, alone),
             row: RecordRow::open(),
             back_off: BackOff::new(),
         })
@@ -246,6 +244,25 @@ impl<O: Helps> Pass<O> {
         self.evaluated.begin();
     }
 
+    /// How many entries the results have that the pass keeps: what it shares with others counts with each. For services that watch memory; no
+    /// contract says more of it (own). Takes no memory.
+    pub fn entries(&self) -> u64 {
+        self.evaluated.entries().0
+    }
+
+    /// How many entries the results have that passes of the context left to one another, as far as they can be read at the moment. No contract
+    /// says more of it (own). Takes no memory.
+    pub fn entries_left(&self) -> u64 {
+        self.evaluated.entries().1
+    }
+
+    /// How many objects, results and calls the pass has looked at so far without that one of them was made: for its waits for all, for what
+    /// passes that it adopted have made, and for what others left. For tests, and for services that watch what these cost; no contract says
+    /// more of it (own). Takes no memory.
+    pub fn looks(&self) -> u64 {
+        self.evaluated.looks()
+    }
+
     /// How many more calls the history takes, as far as the pass has learnt. Takes no memory.
     pub fn room_left(&self) -> u32
         ensures { result + length self.now.view.words ≡ room_of self.now.order }
@@ -284,33 +301,6 @@ impl<O: Helps> Pass<O> {
         let rebuild = self
             .evaluated
             .rebuild(alloc, records, &mut self.reader, room, passes);
-        self.reader.note_made(self.evaluated.made());
-        rebuild
-    }
-
-    /// The same of the objects that are there alone, and which number each has then.
-    pub(crate) fn rebuild_live(
-        &mut self,
-        alloc: Global,
-        records: &Records,
-        room: u32,
-        passes: u32,
-    ) -> Result<(Rebuild, Renumbered), NoSuccessor>
-        requires records { All (IsOf records.now) self.old.shown }
-        requires room { room ≤ MOST_ROOM }
-        requires passes { (0 < passes) × (passes ≤ MOST_PASSES) }
-        ensures same { self.new ≡ record self.old { made = self.new.made } }
-        ensures rebuild { IfOk result (λ r. IsRebuild (room_beside r.0.state.store room) r.0.calls.items r.0.state) }
-        ensures fits { IfOk result (λ r. MayHaveRoom (room_beside r.0.state.store room) passes) }
-        ensures store { IfOk result (λ r. r.0.state.store ≡ live_store (store_of (known self.old))) }
-        ensures numbers { IfOk result (λ r. AreRenumbered (store_of (known self.old)) r.1) }
-        ensures refused { IfErr result (IsNoSuccessor room passes (live_store (store_of (known self.old)))) }
-        ensures named { IfErr result (NamesLive (store_of (known self.old))) }
-    {
-        self.evaluated.begin();
-        let rebuild = self
-            .evaluated
-            .rebuild_live(alloc, records, &mut self.reader, room, passes);
         self.reader.note_made(self.evaluated.made());
         rebuild
     }
@@ -400,6 +390,33 @@ impl<O: Helps> Pass<O> {
         let count = self.evaluated.prepare(records, &mut self.reader);
         self.reader.note_made(self.evaluated.made());
         count
+    }
+
+    /// Makes what the object holds after all known calls, if it is there, and leaves it ready, as a wait for it does; whether it is there.
+    pub(crate) fn evaluate(&mut self, records: &Records, object: Object) -> Result<bool, AllocError>
+        requires records { All (IsOf records.now) self.old.shown }
+        ensures same { self.new ≡ record self.old { made = self.new.made } }
+        ensures there { IfOk result (λ there. there ≡ is_live (shapes_of (store_of (known self.old))) object) }
+        ensures ready { result ≡ Ok true → IsLeftReady self.new object }
+        ensures memory { OnErr result (self.old.settled < length (known self.old)) }
+    {
+        self.evaluated.begin();
+        let there = self.evaluated.evaluate(records, &mut self.reader, object);
+        self.reader.note_made(self.evaluated.made());
+        let there = there?;
+        if there {
+            self.reader.note_ready(Some(object));
+        }
+        Ok(there)
+    }
+
+    /// How much work it is, about, to make what the object holds after all known calls.
+    pub(crate) fn work_left(&mut self, records: &Records, object: Object) -> u64
+        requires records { All (IsOf records.now) self.old.shown }
+        ensures same { self.new ≡ record self.old { made = record self.old.made { ready = None } } }
+    {
+        self.reader.forget_ready();
+        self.evaluated.work_left(records, &mut self.reader, object)
     }
 
     /// Makes blocks of the dear products that other passes make at the moment, and answers how many.

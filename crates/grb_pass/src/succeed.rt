@@ -8,10 +8,8 @@ ghost use Rattle.grb_call.specs.Kinds.{enters};
 ghost use Rattle.grb_call.specs.Store.{empty_store};
 ghost use Rattle.grb_call.specs.After.{refused};
 ghost use Rattle.grb_call.specs.History.{after_all, store_of};
-ghost use Rattle.grb_states.specs.Live.{live_store};
 ghost use Rattle.grb_rebuild.specs.Rebuilding.{IsRebuild};
 ghost use Rattle.grb_rebuild.specs.Rebuilt.{AreTaken};
-ghost use Rattle.grb_rebuild.specs.Renumbered.{AreRenumbered};
 ghost use Rattle.grb_reader.specs.Known.{AreNew, IsPassOf, Knowing, known, none_made};
 ghost use Rattle.grb_reader.specs.Learning.{IsSteady};
 ghost use Rattle.grb_pass.specs.Chosen.{IsNoSuccessor, MayHaveRoom, NamesLive, room_beside};
@@ -24,7 +22,7 @@ use grb_call::Call;
 use grb_core::Refusal;
 use grb_objects::Helps;
 use grb_reader::End;
-use grb_rebuild::{NoSuccessor, Rebuild, Renumbered};
+use grb_rebuild::{NoSuccessor, Rebuild};
 use grb_states::State;
 use std::alloc::Global;
 
@@ -277,31 +275,5 @@ impl<O: Helps> Shared<O> {
             return Err(NoSuccessor::Panic);
         };
         self.succeed(alloc, pass, room, passes)
-    }
-
-    /// The same without the numbers of freed objects: the matrices have the numbers 0, 1, 2 .. in their order, and so have the vectors.
-    /// Beside it stands which number became which. `Unmade` names an object by its old number.
-    pub fn succeed_live(
-        &self,
-        alloc: Global,
-        pass: &mut Pass<O>,
-        room: u32,
-        passes: u32,
-    ) -> Result<(Shared<O>, Vec<Pass<O>>, Renumbered), NoSuccessor>
-        requires pass { IsPassOf self.now pass.old }
-        requires room { (0 < room) × (room ≤ MOST_ROOM) }
-        requires passes { (0 < passes) × (passes ≤ MOST_PASSES) }
-        ensures same { pass.new ≡ record pass.old { made = pass.new.made } }
-        ensures room { IfOk result (λ opened. room_of opened.0.order ≡ room_beside (live_store (store_of (known pass.old))) room) }
-        ensures records { IfOk result (λ opened. HasRows passes (room_beside (live_store (store_of (known pass.old))) room) opened.0.records) }
-        ensures begun { IfOk result (λ opened. AreBegun opened.0 (live_store (store_of (known pass.old))) passes opened.1.items) }
-        ensures ours { IfOk result (λ opened. All (IsPassOf opened.0) opened.1.items) }
-        ensures numbers { IfOk result (λ opened. AreRenumbered (store_of (known pass.old)) opened.2) }
-        ensures refused { IfErr result (IsNoSuccessor room passes (live_store (store_of (known pass.old)))) }
-        ensures named { IfErr result (NamesLive (store_of (known pass.old))) }
-    {
-        let (rebuild, numbers) = pass.rebuild_live(alloc, &self.records, room, passes)?;
-        let (next, begun) = Shared::begin_beside(alloc, rebuild, room, passes)?;
-        Ok((next, begun, numbers))
     }
 }

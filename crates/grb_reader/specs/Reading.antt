@@ -9,13 +9,12 @@ use Rattle.grb_records.specs.Token.{Shown}
 use Rattle.grb_core.specs.Entries.{nvals_of}
 use Rattle.grb_call.specs.declared.call.Call.{Call}
 use Rattle.grb_call.specs.declared.call.Call.TheVariants as call
-use Rattle.grb_call.specs.Store.{Store, empty_store, matrix_entries, shapes_of, vector_entries}
+use Rattle.grb_call.specs.Shapes.{RoomyShapes}
+use Rattle.grb_call.specs.Store.{Store, matrix_entries, shapes_of, vector_entries}
 use Rattle.grb_call.specs.Kinds.{is_build}
 use Rattle.grb_call.specs.Refused.{refused_by_shapes}
 use Rattle.grb_call.specs.After.{refused, refused_build}
-use Rattle.grb_call.specs.History.{calls_of, store_of}
-use Rattle.grb_slices.specs.Targets.{targets_of}
-use Rattle.grb_slices.specs.Targets.{WalkedCalls}
+use Rattle.grb_call.specs.History.{store_of}
 use Rattle.grb_reader.specs.Explains.{ByStore, ground_of}
 use Rattle.grb_reader.specs.Known.{Knowing, spelled, AreRecords}
 use Rattle.grb_reader.specs.declared.reader.Reader.TheInside.{Inside}
@@ -23,22 +22,21 @@ use Rattle.grb_reader.specs.declared.reader.Reader.TheInside.{Inside}
 abbrev pub knowing : Inside → Knowing
 knowing r = record { order = r.seat.table_id; view = r.seat.view; shown = r.tokens.items; steps = r.steps; statuses = r.statuses.rows; settled = r.settled; made = record { count = r.made; ready = r.ready } }
 
--- a reader with these tokens, targets and shapes; the words whose records were not shown yet are of others
-pub record IsReaderWith (number size : ℕ) (seat : Holding) (shown : List Shown) (capacity : ℕ) (walk : WalkedCalls) : Type 0 where
+-- a reader with these tokens and shapes; the words whose records were not shown yet are of others
+pub record IsReaderWith (number size : ℕ) (seat : Holding) (shown : List Shown) (capacity : ℕ) (shapes : RoomyShapes) : Type 0 where
   pub number_is : number ≡ seat.view.number
   pub sound : IsSound seat.table_id.words seat.view
   pub few : length shown ≤ length seat.view.words
   pub records : AreRecords seat.view.words shown
   pub others : All (IsOthers seat.view) (drop (length shown) seat.view.words)
-  pub targets_are : walk.targets ≡ targets_of (shapes_of empty_store) (calls_of (spelled seat.view.words shown))
-  pub shapes_are : walk.shapes.objects ≡ shapes_of (store_of (spelled seat.view.words shown))
-  pub room : walk.shapes.room + length shown ≡ seat.table_id.words
+  pub shapes_are : shapes.objects ≡ shapes_of (store_of (spelled seat.view.words shown))
+  pub room : shapes.room + length shown ≡ seat.table_id.words
   pub roomy : seat.table_id.words ≤ capacity
   pub room_is : size ≡ seat.table_id.words
   pub small : seat.table_id.words ≤ MOST_WORDS
 
 abbrev pub IsReader : Inside → Type 0
-IsReader r = IsReaderWith r.number r.statuses.room r.seat r.tokens.items (vec_capacity r.tokens) r.targets
+IsReader r = IsReaderWith r.number r.statuses.room r.seat r.tokens.items (vec_capacity r.tokens) r.shapes
 
 -- what a check of a build by what is stored found: no refusal, or memory was refused to the evaluation, or this refusal
 abbrev pub IsBuildChecked : Store → Call → Result (Unit {0}) Refusal → Type 0

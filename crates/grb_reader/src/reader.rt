@@ -1,12 +1,11 @@
 //! What a pass knows of the history: its words, the tokens of their records, and the shapes that their calls leave.
 //!
-//! It keeps the words that the pass has learnt and, for the first of them, the tokens of their records, with the targets and the shapes of
-//! the calls in these. None of these lists shrinks. A call is known once its record was shown.
+//! It keeps the words that the pass has learnt and, for the first of them, the tokens of their records, with the shapes that the calls in these
+//! leave. None of these lists shrinks. A call is known once its record was shown.
 //!
 //! 1. `look` loads the first word that is not learnt, and learns it where it is not 0. It is one step, which is counted.
 //! 2. `next_unshown` names the first word without a token. Its record is read from the cells of the pass that entered it (`learn.rt`), and
-//!    `admit` takes in its token, its target and its shapes. A record that is not shown leaves the lists as they are; the next
-//!    call begins there.
+//!    `admit` takes in its token and its shapes. A record that is not shown leaves the lists as they are; the next call begins there.
 //! 3. `check`, `reply` and `size` read the lists alone: no step, and no memory.
 //! 4. `enter` is made where each word has its token and the last look found 0. Where it is won the own word, token and shapes are added at
 //!    once; where it is lost the other's word alone, and the token comes back.
@@ -25,10 +24,9 @@ ghost use Rattle.grb_order.specs.Steps.{Looks};
 ghost use Rattle.grb_records.specs.Token.{IsOf};
 ghost use Rattle.grb_call.specs.Kinds.{class_of, enters, is_size};
 ghost use Rattle.grb_call.specs.Refused.{check_of, refused_by_shapes};
-ghost use Rattle.grb_call.specs.Store.{empty_store, shapes_of};
+ghost use Rattle.grb_call.specs.Store.{shapes_of};
 ghost use Rattle.grb_call.specs.After.{reply_of};
 ghost use Rattle.grb_call.specs.History.{calls_of, store_of};
-ghost use Rattle.grb_slices.specs.Targets.{targets_of};
 ghost use Rattle.grb_call.specs.Statuses.{status_at};
 ghost use Rattle.grb_reader.specs.Known.{known, new_pass, none_made};
 ghost use Rattle.grb_reader.specs.Learning.{Enters, IsNextUnshown, IsSteady};
@@ -43,19 +41,20 @@ use grb_call::{
 use grb_core::{Info, Refusal};
 use grb_order::{Entered, Look, Order, Seat};
 use grb_records::{Records, Token};
-use grb_slices::{CallList, Targets};
+use grb_slices::CallList;
 use std::alloc::{AllocError, Global};
 use std::marker::Model;
 
-/// What a pass has read of the order: its words, the records of the first of them, the targets of their calls and the shapes that they
-/// leave, the status that each object has of the calls of the pass, how many calls it settled, and what it made to answer.
+/// What a pass has read of the order: its words, the records of the first of them, the shapes that their calls leave, the status that each
+/// object has of the calls of the pass, how many calls it settled, and what it made to answer.
 #[derive(Drop)]
 pub struct Reader {
     number: u32,
     seat: Seat,
     // The records of the first words learnt, with room for all words of the order.
     tokens: Vec<Token>,
-    targets: Targets,
+    // Those that all these records leave, with room for the others.
+    shapes: Shapes,
     // The steps of the last call or meeting.
     steps: u32,
     // The status of each object, whose number is below that of the words that the order has.
@@ -100,13 +99,13 @@ impl Reader {
         ensures { IfOk result (λ reader. reader ≡ new_pass seat.table_id seat.view) }
     {
         let tokens = Vec::with_capacity(alloc, room as usize)?;
-        let targets = Targets::open(alloc, room)?;
+        let shapes = Shapes::open(alloc, room)?;
         let statuses = Statuses::open(alloc, room)?;
         Ok(Reader {
             number,
             seat,
             tokens,
-            targets,
+            shapes,
             steps: 0,
             statuses,
             settled: 0,
@@ -264,7 +263,7 @@ impl Reader {
         requires call { call.now ≡ token.call }
         ensures { self.new ≡ record self.old { shown = self.old.shown ++ token ∷ [] } }
     {
-        self.targets.go_over(call);
+        self.shapes.absorb(call);
         self.tokens.push_reserved(token);
     }
 
@@ -327,14 +326,14 @@ impl Reader {
     pub fn shapes(&self) -> &Shapes
         ensures { result.now.objects ≡ shapes_of (store_of (known self.now)) }
     {
-        self.targets.shapes()
+        &self.shapes
     }
 
     /// What becomes of the call after all known ones, or its refusal.
     pub fn check(&self, call: &Call) -> Result<Kind, Refusal>
         ensures { result ≡ check_of (shapes_of (store_of (known self.now))) call.now }
     {
-        check(self.targets.shapes(), call)
+        check(&self.shapes, call)
     }
 
     /// The number that a call is given which makes an object after all known ones.
@@ -344,10 +343,10 @@ impl Reader {
     {
         match call {
             Call::NewMatrix { .. } | Call::DupMatrix { .. } | Call::Diag { .. } => {
-                Reply::MadeMatrix(MatrixId(self.targets.shapes().matrices()))
+                Reply::MadeMatrix(MatrixId(self.shapes.matrices()))
             }
             Call::NewVector { .. } | Call::DupVector { .. } => {
-                Reply::MadeVector(VectorId(self.targets.shapes().vectors()))
+                Reply::MadeVector(VectorId(self.shapes.vectors()))
             }
             _ => unreachable!(),
         }
@@ -372,13 +371,11 @@ impl Reader {
     {
         match call.object() {
             Some(Object::Matrix(a)) => self
-                .targets
-                .shapes()
+                .shapes
                 .matrix(a)
                 .map_or(Reply::Done, |shape| Reply::Dims(shape.1, shape.2)),
             Some(Object::Vector(v)) => self
-                .targets
-                .shapes()
+                .shapes
                 .vector(v)
                 .map_or(Reply::Done, |shape| Reply::Size(shape.1)),
             None => unreachable!(),
@@ -407,7 +404,7 @@ impl Reader {
         self.steps += 1;
         match order.enter(&mut self.seat, token.index()) {
             Entered::Won => {
-                self.targets.take_in(call);
+                self.shapes.absorb_accepted(call);
                 self.tokens.push_reserved(token);
                 None
             }
@@ -420,12 +417,6 @@ impl CallList<Records> for Reader {
     ghost is_in = { λ records reader. All (IsOf records) reader.shown };
 
     ghost calls = { λ records reader. calls_of (known reader) };
-
-    ghost target_list = { λ reader. targets_of (shapes_of empty_store) (calls_of (known reader)) };
-
-    fn targets(&self) -> &[Option<Object>] {
-        self.targets.targets()
-    }
 
     fn call_at<'a>(&mut self, source: &'a Records, at: usize) -> &'a Call {
         source.call_of(&mut self.tokens[at])

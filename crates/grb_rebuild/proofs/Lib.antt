@@ -1,4 +1,3 @@
 pub mod Numbers
 pub mod Rebuilding
 pub mod Taken
-pub mod Renumbering

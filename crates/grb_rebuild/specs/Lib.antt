@@ -1,3 +1,2 @@
 pub mod Rebuilding
 pub mod Rebuilt
-pub mod Renumbered

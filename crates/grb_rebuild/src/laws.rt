@@ -1,6 +1,5 @@
 //! What the calls that make a store anew leave.
 ghost use Rattle.grb_rebuild.specs.Rebuilt.{HistoryGoesOn, RebuildIsShort, RebuildIsTaken, RebuildLeavesTheStore};
-ghost use Rattle.grb_rebuild.specs.Renumbered.{NewNumbersLoseNoObject};
 
 /// The calls that make a store anew leave it, none of them is refused, and they are two at most for each number.
 pub fn a_rebuild_leaves_the_store()
@@ -12,9 +11,4 @@ pub fn a_rebuild_leaves_the_store()
 /// After the calls that make a store anew, further calls leave what they leave after all the calls that made the store: a history goes on.
 pub fn a_history_goes_on()
     ensures { HistoryGoesOn }
-{}
-
-/// In the store of the objects that are there each of them stands at its new number, no other is added, and their order stays.
-pub fn new_numbers_lose_no_object()
-    ensures { NewNumbersLoseNoObject }
 {}

@@ -1,18 +1,15 @@
 //! A store to go on with, and the calls that make it anew.
 ghost use Rattle.std.specs.Prelude.{◌≡◌, ◌<◌, ◌≤◌, ◌+◌, ◌^◌, ◌*◌, length, IfOk, IfErr};
 ghost use Rattle.grb_call.specs.Store.{IsStore};
-ghost use Rattle.grb_states.specs.Live.{live_store};
 ghost use Rattle.grb_states.specs.Settled.{AreAllAssembled};
 ghost use Rattle.grb_states.specs.State.{is_assembled};
 ghost use Rattle.grb_rebuild.specs.Rebuilt.{rebuilt};
 ghost use Rattle.grb_rebuild.specs.Rebuilding.{IsRebuild, IsNotRebuilt};
-ghost use Rattle.grb_rebuild.specs.Renumbered.{AreRenumbered};
 
-use crate::renumbered::Renumbered;
 use crate::store::{calls_for, needed};
 use grb_call::{Call, Object};
 use grb_states::State;
-use std::alloc::{AllocError, Global};
+use std::alloc::Global;
 
 /// Why there is no successor.
 #[derive(Clone, Copy, Debug, PartialEq, Eq)]
@@ -56,16 +53,4 @@ pub fn rebuild_all(alloc: Global, state: &State, room: u32) -> Result<Rebuild, N
         return Err(NoSuccessor::OutOfMemory);
     };
     Ok(Rebuild { calls, state })
-}
-
-/// The store of the objects that are there, in which the matrices have the numbers 0, 1, 2 .. in their order, and so have the vectors, and
-/// which number each has in it. No entry is copied. `AllocError` where memory is refused (own).
-pub fn live_state(alloc: Global, state: &State) -> Result<(State, Renumbered), AllocError>
-    ensures store { IfOk result (λ r. r.0.store ≡ live_store state.now.store) }
-    ensures assembled { IfOk result (λ r. AreAllAssembled (is_assembled state.now.matrices state.now.vectors) → AreAllAssembled (is_assembled r.0.matrices r.0.vectors)) }
-    ensures numbers { IfOk result (λ r. AreRenumbered state.now.store r.1) }
-{
-    let live = state.live()?;
-    let numbers = Renumbered::of(alloc, state)?;
-    Ok((live, numbers))
 }

@@ -1,7 +1,7 @@
 -- A list of calls on the whole store and on the part, one after another.
 use Rattle.std.proofs.Common.{◌≡◌, ℕ, zero, suc, ◌<◌, Bool, true, false, if◌then◌else◌, List, [], ◌∷◌, refl, sym, ap, subst, ◌∙◌, arith, length, drop, take, get_or, Option, Some, None}
 use Rattle.grb_replay.proofs.Prelude.{option_map_or, Call, Object, ObjectShapes, shapes_after, output_of, Store, shapes_of, with_place, after, after_all, shapes_of-after, Contents, content_at, effective_target, outcome, Step, Entry, Make, Wants, entries, evaluated, sliced, wants_before, with_content, steps_of, is_chosen, wants_before_entry, Follows, GoesOn, HasGoneOver, part_after, targets_of}
-use Rattle.grb_slices.proofs.Lists.{take_all}
+use Rattle.grb_replay.proofs.Lists.{take_all}
 use Rattle.grb_replay.proofs.Followed.{follows_next, made_there, placed_same, same_wants, taken_there}
 use Rattle.grb_replay.proofs.Places.{drop_end}
 use Rattle.grb_replay.proofs.Walked.{sliced_before}

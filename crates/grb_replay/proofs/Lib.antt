@@ -1,5 +1,7 @@
 mod Followed
 mod Going
+mod Lists
+mod NextTarget
 mod Placed
 mod Places
 mod Prelude

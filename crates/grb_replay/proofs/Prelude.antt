@@ -16,7 +16,8 @@ pub use Rattle.grb_replay.specs.Wanted.{HasPlace, HavePlaces, KeepsPlaces, Marks
 pub use Rattle.grb_slices.specs.Content.{Contents, MatrixContent, VectorContent, content_at, effective_target, outcome, target_of}
 pub use Rattle.grb_slices.specs.Slice.{Entry, Make, Step, Wants, choices, entries, evaluated, is_among, sliced, wants_before, with_content}
 pub use Rattle.grb_slices.specs.Steps.{AgreeOn, steps_of}
-pub use Rattle.grb_slices.specs.Targets.{targets_of}
+pub use Rattle.grb_replay.specs.Targets.{targets_of}
+pub use Rattle.std.proofs.lemmas.List.{get_or-drop, length_push, take_more}
 pub use Rattle.std.specs.Option.{option_map_or}
 pub use Rattle.std.specs.Prelude.{slice_get}
-pub use lib.ListN.{length-map}
+pub use lib.ListN.{length-drop, length-map}

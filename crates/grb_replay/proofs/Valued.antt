@@ -11,10 +11,10 @@ use Rattle.grb_call.specs.History.{after_all}
 use Rattle.grb_slices.specs.Content.{MatrixContent, VectorContent, content_at}
 use Rattle.grb_replay.specs.declared.slice.Slice.{Slice}
 use Rattle.grb_replay.specs.SliceFor.{IsSliceFor}
-use Rattle.grb_slices.specs.Slice.{Step, Wants, choices, entries, sliced}
+use Rattle.grb_slices.specs.Slice.{Step, Wants, entries, sliced}
 use Rattle.grb_replay.specs.Held.{slice_of, slice_length}
 use Rattle.grb_replay.specs.Followed.{Follows, GoesOn, HasGoneOver}
-use Rattle.grb_slices.specs.Targets.{WalkedCalls, targets_of}
+use Rattle.grb_replay.specs.Targets.{targets_of}
 use Rattle.grb_replay.proofs.Going.{entries_are}
 
 -- the elements of the slice of one object, which is all that is wanted
@@ -38,17 +38,11 @@ follows_same : (w : Wants) (whole part : Store) → part ≡ whole → Follows w
 follows_same w whole part e = record { matrices = ap (λ (s : Store). length s.matrices) e; vectors = ap (λ (s : Store). length s.vectors) e; agree = λ o is. ap (λ (s : Store). content_at s o) (sym e) }
 
 -- the slice of what is wanted, gone over on an equal store
-pub goes_over : (w : Wants) (cs : List Call) (walk now : WalkedCalls) (bs : List Bool) (slice : Slice) (whole part made : Store) → IsSliceFor slice w walk.targets cs →
-    walk.targets ≡ targets_of (shapes_of whole) cs → now ≡ walk → bs ≡ slice.chosen.items → part ≡ whole →
-    ((u : Wants) (s : Store) → GoesOn u s cs now.targets bs part → HasGoneOver u s cs now.targets part made) → HasGoneOver w whole cs walk.targets whole made
-goes_over w cs walk now bs slice whole part made found targets same chosen equal goes =
-    subst (λ (t : WalkedCalls). HasGoneOver w whole cs t.targets whole made) same
-    (subst (λ (r : Store). HasGoneOver w whole cs now.targets r made) equal
-    (goes w whole (record {
-      targets_are = ap (λ (t : WalkedCalls). t.targets) same ∙ targets;
-      chosen_are = chosen ∙ (found.chosen ∙ ap (λ (t : WalkedCalls). choices w (entries t.targets cs)) (sym same));
-      follows = follows_same (sliced w (entries now.targets cs)).wanted whole part equal;
-    })))
+pub goes_over : (w : Wants) (cs : List Call) (ts : List (Option Object)) (bs : List Bool) (slice : Slice) (whole part made : Store) → IsSliceFor slice w ts cs → ts ≡ targets_of (shapes_of whole) cs →
+    bs ≡ slice.chosen.items → part ≡ whole → ((u : Wants) (s : Store) → GoesOn u s cs ts bs part → HasGoneOver u s cs ts part made) → HasGoneOver w whole cs ts whole made
+goes_over w cs ts bs slice whole part made found targets chosen equal goes =
+    subst (λ (r : Store). HasGoneOver w whole cs ts r made) equal
+    (goes w whole (record { targets_are = targets; chosen_are = chosen ∙ found.chosen; follows = follows_same (sliced w (entries ts cs)).wanted whole part equal }))
 
 -- how many calls were made
 pub length_none : (s : Store) (o : Object) (cs : List Call) (u : ObjectShapes) → u ≡ shapes_of (after_all s cs) → is_live u o ≡ false → 0 ≡ slice_length s o cs

@@ -13,7 +13,7 @@ use Rattle.grb_replay.specs.Held.{HoldsSlice}
 use Rattle.grb_slices.specs.Content.{content_at}
 use Rattle.grb_slices.specs.Slice.{Wants, choices, entries, sliced}
 use Rattle.grb_slices.specs.Steps.{AgreeOn}
-use Rattle.grb_slices.specs.Targets.{targets_of}
+use Rattle.grb_replay.specs.Targets.{targets_of}
 
 pub record Follows (w : Wants) (whole part : Store) : Type 0 where
   pub matrices : length part.matrices ≡ length whole.matrices

@@ -1,10 +1,10 @@
 pub mod Followed
 pub mod Held
 pub mod SliceFor
+pub mod Targets
 pub mod Wanted
 pub use Rattle.grb_objects.specs.Stored
 pub use Rattle.grb_results.specs.Kept
 pub use Rattle.grb_results.specs.Results
-pub use Rattle.grb_slices.specs.Targets
 pub use Rattle.grb_states.specs.Settled
 pub use Rattle.grb_states.specs.State

@@ -1,13 +1,12 @@
 //! Calls that are made on a state one by one, with a place for each object that is passed over.
-ghost use Rattle.std.specs.Prelude.{◌≡◌, ◌+◌, ◌<◌, ◌≤◌, false, true, Some, length, slice_get, OnOk};
+ghost use Rattle.std.specs.Prelude.{◌≡◌, ◌+◌, ◌<◌, ◌≤◌, false, true, Some, length, map, OnOk};
 ghost use Rattle.grb_call.specs.declared.call.Call.{Call};
 ghost use Rattle.grb_call.specs.Store.{Store, shapes_of};
 ghost use Rattle.grb_slices.specs.Content.{effective_target};
 ghost use Rattle.grb_slices.specs.Slice.{Wants};
 ghost use Rattle.grb_replay.specs.Followed.{GoesOn, HasGoneOver, HasPlaceIn, LacksPlaceIn, part_after};
 
-use grb_call::Object;
-use grb_slices::CallList;
+use grb_call::{Call, Object};
 use grb_state::apply;
 use grb_states::State;
 use std::alloc::AllocError;
@@ -35,25 +34,20 @@ pub(crate) fn pass_over(state: &mut State, object: Object)
     state.add_place(object);
 }
 
-/// Makes the call at this place on a state where it is chosen; of one that is not, which is not read, the object that it would make gets a
-/// place, and is not there. `AllocError` where memory is refused; what the state holds then, no clause says.
-fn make_one<S, C: CallList<S>>(
+/// Makes a call with this target on a state where it is chosen; of one that is not, the object that it would make gets a place, and is not
+/// there. `AllocError` where memory is refused; what the state holds then, no clause says.
+fn make_one(
     state: &mut State,
     target: Option<Object>,
-    calls: &mut C,
-    source: &S,
-    at: usize,
+    call: &Call,
     is_chosen: bool,
 ) -> Result<(), AllocError>
-    requires held { C.is_in source.now calls.old }
-    requires at { at < length (C.calls source.now calls.old) }
     requires room { 0 < state.old.room }
-    ensures same { calls.new ≡ calls.old }
-    ensures store { OnOk result ((call : Call) (whole : Store) → slice_get (C.calls source.now calls.old) at ≡ Some call → target ≡ effective_target (shapes_of whole) call → length state.old.store.matrices ≡ length whole.matrices → length state.old.store.vectors ≡ length whole.vectors → state.new.store ≡ part_after is_chosen target call state.old.store) }
+    ensures store { OnOk result ((whole : Store) → target ≡ effective_target (shapes_of whole) call.now → length state.old.store.matrices ≡ length whole.matrices → length state.old.store.vectors ≡ length whole.vectors → state.new.store ≡ part_after is_chosen target call.now state.old.store) }
     ensures room { OnOk result (state.old.room ≤ state.new.room + 1) }
 {
     if is_chosen {
-        return apply(state, calls.call_at(source, at));
+        return apply(state, call);
     }
     let Some(object) = target else {
         return Ok(());
@@ -62,27 +56,24 @@ fn make_one<S, C: CallList<S>>(
     Ok(())
 }
 
-/// Makes, of calls that come one after another on a whole store, those that were chosen, on a state that holds of it what is wanted before
-/// them; after them the state holds what is wanted then, as the whole store does after all of them, and no other call has changed it.
-/// `AllocError` where memory is refused; what the state holds then, no clause says.
-pub(crate) fn make_chosen<S, C: CallList<S>>(
+/// Makes, of calls with these targets that come one after another on a whole store, those that were chosen, on a state that holds of it what
+/// is wanted before them; after them the state holds what is wanted then, as the whole store does after all of them, and no other call has
+/// changed it. `AllocError` where memory is refused; what the state holds then, no clause says.
+pub(crate) fn make_chosen(
     state: &mut State,
-    calls: &mut C,
-    source: &S,
+    targets: &[Option<Object>],
+    calls: &[&Call],
     chosen: &[bool],
 ) -> Result<(), AllocError>
-    requires held { C.is_in source.now calls.old }
-    requires targets { length (C.target_list calls.old) ≡ length (C.calls source.now calls.old) }
-    requires chosen { length chosen.now ≡ length (C.calls source.now calls.old) }
-    requires room { length chosen.now ≤ state.old.room }
-    ensures same { calls.new ≡ calls.old }
-    ensures room { OnOk result (state.old.room ≤ state.new.room + length chosen.now) }
-    ensures over { OnOk result ((w : Wants) (whole : Store) → GoesOn w whole (C.calls source.now calls.old) (C.target_list calls.old) chosen.now state.old.store
-        → HasGoneOver w whole (C.calls source.now calls.old) (C.target_list calls.old) state.old.store state.new.store) }
+    requires targets { length targets.now ≡ length calls.now }
+    requires chosen { length chosen.now ≡ length calls.now }
+    requires room { length calls.now ≤ state.old.room }
+    ensures room { OnOk result (state.old.room ≤ state.new.room + length calls.now) }
+    ensures over { OnOk result ((w : Wants) (whole : Store) → GoesOn w whole (map (λ c. c.now) calls.now) targets.now chosen.now state.old.store
+        → HasGoneOver w whole (map (λ c. c.now) calls.now) targets.now state.old.store state.new.store) }
 {
-    'places: for at in 0..calls.targets().len() {
-        let target = calls.targets()[at];
-        make_one(state, target, calls, source, at, chosen[at])?;
+    'places: for at in 0..calls.len() {
+        make_one(state, targets[at], calls[at], chosen[at])?;
     }
     Ok(())
 }

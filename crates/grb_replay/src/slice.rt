@@ -1,13 +1,10 @@
 //! The calls that one answer needs, chosen from the last call back to the first.
-ghost use Rattle.std.specs.Prelude.{◌≡◌, ◌+◌, ◌<◌, ◌^◌, Some, if◌then◌else◌, length, slice_get, IfOk, OnOk};
-ghost use Rattle.grb_call.specs.declared.call.Call.{Call};
-ghost use Rattle.grb_call.specs.declared.ids.Object.{Object};
+ghost use Rattle.std.specs.Prelude.{◌≡◌, ◌+◌, ◌<◌, ◌^◌, if◌then◌else◌, length, map, IfOk};
 ghost use Rattle.grb_replay.specs.SliceFor.{IsSliceFor};
-ghost use Rattle.grb_replay.specs.Wanted.{is_chosen, is_wanted, wants_before_entry};
+ghost use Rattle.grb_replay.specs.Wanted.{is_wanted};
 
 use crate::wanted::Wanted;
-use grb_call::Object;
-use grb_slices::CallList;
+use grb_call::{Call, Object};
 use std::alloc::{AllocError, Global};
 
 /// The slice of a list of calls for one object.
@@ -27,52 +24,26 @@ fn counted(count: usize, is_chosen: bool) -> usize
     if is_chosen { count + 1 } else { count }
 }
 
-/// Goes back over the call at this place, which has this target there: whether the target is wanted, so that the call is chosen. Only then
-/// is the call read. `AllocError` where memory is refused; what is wanted then, no clause says.
-fn go_back_at<S, C: CallList<S>>(
-    wanted: &mut Wanted,
-    target: Option<Object>,
-    calls: &mut C,
-    source: &S,
-    at: usize,
-) -> Result<bool, AllocError>
-    requires held { C.is_in source.now calls.old }
-    requires at { at < length (C.calls source.now calls.old) }
-    ensures same { calls.new ≡ calls.old }
-    ensures chosen { IfOk result (λ chosen. chosen ≡ is_chosen (is_wanted wanted.old) target) }
-    ensures wanted { OnOk result ((call : Call) → slice_get (C.calls source.now calls.old) at ≡ Some call → (o : Object) → is_wanted wanted.new o ≡ wants_before_entry (is_wanted wanted.old) target call o) }
-{
-    let Some(object) = target else {
-        return Ok(false);
-    };
-    if !wanted.contains(object) {
-        return Ok(false);
-    }
-    wanted.go_back(target, calls.call_at(source, at))
-}
-
-/// The calls that what is wanted after the last depends on. `AllocError` where memory is refused; then `wanted` is dropped.
+/// The calls, with these targets, that what is wanted after the last depends on. `AllocError` where memory is refused; then `wanted` is
+/// dropped.
 ///
 /// Source: Weiser, "Program slicing", 1981; over calls own.
-pub(crate) fn slice_for<S, C: CallList<S>>(
+pub(crate) fn slice_for(
     alloc: Global,
-    calls: &mut C,
-    source: &S,
+    targets: &[Option<Object>],
+    calls: &[&Call],
     wanted: Wanted,
 ) -> Result<Slice, AllocError>
-    requires held { C.is_in source.now calls.old }
-    requires targets { length (C.target_list calls.old) ≡ length (C.calls source.now calls.old) }
-    ensures same { calls.new ≡ calls.old }
-    ensures slice { IfOk result (λ s. IsSliceFor s (is_wanted wanted) (C.target_list calls.old) (C.calls source.now calls.old)) }
+    requires targets { length targets.now ≡ length calls.now }
+    ensures slice { IfOk result (λ s. IsSliceFor s (is_wanted wanted) targets.now (map (λ c. c.now) calls.now)) }
 {
     let mut wanted = wanted;
-    let mut at = calls.targets().len();
+    let mut at = calls.len();
     let mut chosen = vec![in alloc; false; at]?;
     let mut count = 0;
     'back: while at > 0 {
         at -= 1;
-        let target = calls.targets()[at];
-        let is_chosen = go_back_at(&mut wanted, target, calls, source, at)?;
+        let is_chosen = wanted.go_back(targets[at], calls[at])?;
         chosen[at] = is_chosen;
         count = counted(count, is_chosen);
     }

@@ -5,9 +5,9 @@ ghost use Rattle.grb_replay.specs.Held.{HoldsSame, IsEmptyWhereGone, IsMadeBySli
 
 use crate::making::make_chosen;
 use crate::slice::slice_for;
+use crate::targets::Targets;
 use crate::wanted::Wanted;
 use grb_call::{Call, Object};
-use grb_slices::{LentCalls, Targets};
 use grb_sparse::{SparseMatrix, SparseVector};
 use grb_states::State;
 use std::alloc::{AllocError, Global};
@@ -65,12 +65,12 @@ pub fn value_of(
             evaluated: 0,
         });
     }
-    let source = LentCalls { calls };
+    let targets = walk.targets();
     let mut wanted = Wanted::new(alloc);
     wanted.want(object)?;
-    let slice = slice_for(alloc, &mut walk, &source, wanted)?;
+    let slice = slice_for(alloc, targets, calls, wanted)?;
     let mut state = whole.try_clone(room)?;
-    make_chosen(&mut state, &mut walk, &source, slice.chosen.as_slice())?;
+    make_chosen(&mut state, targets, calls, slice.chosen.as_slice())?;
     state.complete(object)?;
     Ok(Held {
         object,

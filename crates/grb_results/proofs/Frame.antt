@@ -1,6 +1,6 @@
 -- Results of calls, by what objects hold after some of the calls.
 use Rattle.std.proofs.Common.{◌≡◌, ◌≢◌, ℕ, zero, suc, ◌+◌, ◌-◌, ◌<◌, ◌≤◌, true, false, List, [], ◌∷◌, ◌++◌, length, take, get_or, append_assoc, refl, sym, ap, subst, ◌∙◌, Option, Some, None, is_some, slice_set, length-set, arith}
-use Rattle.grb_results.proofs.Prelude.{slice_get, IfSome, option_map, Call, Object, objects_read, refused_by_shapes, Store, empty_store, shapes_of, after_all, Content, Contents, content_at, outcome, Learnt, Table, SharedContent, last_of, is_among, AgreeOn, AreOneHistory, Follows, IsLearnt, contents_after, target_in, AreHeld, AreResults, AreTaken, IsFrom, IsResult, IsTable, LinksTo, MayMake, Mine, Theirs, forgets, objects_needed, IsEdit, content_of, dups_one, edits_one, needs_all, after_these, is_accepted, link_there, made_here, node_there, same_calls, same_target, since_at, since_long, since_of, some_target, store_before, the_target, there, end_none, some_same, take_suc, within_of}
+use Rattle.grb_results.proofs.Prelude.{slice_get, IfSome, option_map, Call, Object, objects_read, refused_by_shapes, Store, empty_store, shapes_of, after_all, Content, Contents, content_at, outcome, Learnt, Table, SharedContent, last_of, is_among, AgreeOn, AreOneHistory, Follows, IsLearnt, contents_after, target_in, AreHeld, AreResults, AreTaken, IsApart, IsFrom, IsResult, IsTable, KeepsAll, LinksTo, MayMake, Mine, Theirs, forgets, objects_needed, IsEdit, content_of, dups_one, edits_one, needs_all, after_these, is_accepted, link_there, made_here, node_there, same_calls, same_target, since_at, since_long, since_of, some_target, store_before, the_target, there, end_none, some_same, take_suc, within_of}
 use Rattle.grb_core.specs.declared.tests.Diagonal.{Diagonal}
 use Rattle.grb_call.specs.declared.call.Call.TheVariants as call
 use Rattle.grb_call.specs.declared.ids.Object.TheVariants as object
@@ -12,6 +12,7 @@ use Rattle.grb_links.specs.declared.node.Node.{Node}
 use Rattle.grb_slices.proofs.Refusals.{same_refusal}
 use Rattle.grb_links.specs.Dup.{is_dup}
 use Rattle.grb_results.proofs.Lists.{AtSet, Here, Other, set_at, take_whole}
+use Rattle.grb_results.proofs.Settled.{settled_kept, settled_set, within_still}
 
 -- a result more is kept
 pub results_put : (cs : List Call) (rs : List (Option SharedContent)) (k : ℕ) (v : SharedContent) → AreResults cs rs → IsResult cs k v → AreResults cs (slice_set rs k (Some v))
@@ -124,13 +125,16 @@ pub agree_none : (r t : Contents) → AgreeOn (is_among []) r t
 agree_none r t p wanted = absurd (none_among p wanted)
 
 -- a table in which a result more is kept
-pub table_put : (cs : List Call) (old new : Table) (k : ℕ) (v : SharedContent) → IsTable cs old → IsResult cs k v → new.learnt ≡ old.learnt → new.results.items ≡ slice_set old.results.items k (Some v) → IsTable cs new
-table_put cs old new k v was is learnt results =
+pub table_put : (cs : List Call) (old new : Table) (k : ℕ) (v : SharedContent) → IsTable cs old → IsApart old k → IsResult cs k v → new.learnt ≡ old.learnt → new.settled ≤ old.settled →
+    new.results.items ≡ slice_set old.results.items k (Some v) → IsTable cs new
+table_put cs old new k v was apart is learnt fewer results =
     let count : length new.results.items ≡ length old.results.items = ap length results ∙ length-set old.results.items k (Some v) in
     record {
       learnt = subst (λ (l : Learnt). IsLearnt cs l) (sym learnt) was.learnt;
       results = subst (λ (rs : List (Option SharedContent)). AreResults cs rs) (sym results) (results_put cs old.results.items k v was.results is);
       places = count ∙ (was.places ∙ ap (λ (l : Learnt). length l.nodes.items) (sym learnt));
+      settled = settled_set old new learnt fewer k (Some v) apart results was.settled;
+      within = within_still old new learnt fewer was.within;
     }
 
 -- the answer: what an object holds after all calls is the result of the call that last changed it
@@ -166,11 +170,13 @@ result_as : (cs : List Call) (k : ℕ) (v w : SharedContent) → content_of v �
 result_as cs k v w same is o target = is o target ∙ ap (λ (x : Content). Some x) (sym same)
 
 pub table_taken : (cs ds : List Call) (old theirs new : Table) → IsTable cs old → IsTable ds theirs → AreOneHistory cs ds → AreTaken old.results.items theirs.results.items new.results.items →
-    new.learnt ≡ old.learnt → length new.results.items ≡ length old.results.items → IsTable cs new
-table_taken cs ds old theirs new was other one taken learnt count = record {
+    new.learnt ≡ old.learnt → length new.results.items ≡ length old.results.items → new.settled ≤ old.settled → KeepsAll old new → IsTable cs new
+table_taken cs ds old theirs new was other one taken learnt count fewer keeps = record {
   learnt = subst (λ (l : Learnt). IsLearnt cs l) (sym learnt) was.learnt;
   results = λ k v stands. by k v (within_of new.results.items k (Some v) stands) (taken k v stands);
   places = count ∙ (was.places ∙ ap (λ (l : Learnt). length l.nodes.items) (sym learnt));
+  settled = settled_kept old new learnt fewer keeps was.settled;
+  within = within_still old new learnt fewer was.within;
 }
   where
     by : (k : ℕ) (v : SharedContent) → k < length new.results.items → IsFrom old.results.items theirs.results.items k v → IsResult cs k v
@@ -195,13 +201,15 @@ taken_put mine theirs new at v w stands same put k x e = by (set_at mine at (Som
     by (Here n f) = Theirs w (ap (slice_get theirs) n ∙ stands) (ap content_of (some_same x v f) ∙ same)
 
 -- a table in which a place was emptied
-pub table_emptied : (cs : List Call) (old new : Table) (k : ℕ) → IsTable cs old → new.learnt ≡ old.learnt → new.results.items ≡ slice_set old.results.items k None → IsTable cs new
-table_emptied cs old new k was learnt results =
+pub table_emptied : (cs : List Call) (old new : Table) (k : ℕ) → IsTable cs old → IsApart old k → new.learnt ≡ old.learnt → new.settled ≤ old.settled → new.results.items ≡ slice_set old.results.items k None → IsTable cs new
+table_emptied cs old new k was apart learnt fewer results =
     let count : length new.results.items ≡ length old.results.items = ap length results ∙ length-set old.results.items k None in
     record {
       learnt = subst (λ (l : Learnt). IsLearnt cs l) (sym learnt) was.learnt;
       results = λ j v stands. by j v (set_at old.results.items k None j (Some v) (sym (ap (λ (rs : List (Option SharedContent)). slice_get rs j) results) ∙ stands));
       places = count ∙ (was.places ∙ ap (λ (l : Learnt). length l.nodes.items) (sym learnt));
+      settled = settled_set old new learnt fewer k None apart results was.settled;
+      within = within_still old new learnt fewer was.within;
     }
   where
     by : (j : ℕ) (v : SharedContent) → AtSet old.results.items k None j (Some v) → IsResult cs j v

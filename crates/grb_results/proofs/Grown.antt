@@ -13,6 +13,8 @@ module _ (cs ds : List Call) (one : AreOneHistory cs ds) where
         let places = was.places in let mine = was.learnt.within in
         same_result ds cs (λ n x y. sym (one n y x)) k (omega (arith, near, places, theirs)) (omega (arith, near, places, mine)) v (was.results k v stands);
     places = was.places;
+    settled = was.settled;
+    within = was.within;
   }
 
 pub grown : (cs : List Call) (c : Call) (old new : Table) → length old.learnt.nodes.items ≡ length cs → IsTable cs old →

@@ -1,12 +1,13 @@
 -- The last results of objects: what they hold, and what is kept of one in which changes were done.
-use Rattle.std.proofs.Common.{◌≡◌, ℕ, zero, suc, ◌-◌, true, List, [], ◌∷◌, length, take, refl, sym, ap, subst, ◌∙◌, Option, Some, None, slice_set, length-set, arith}
-use Rattle.grb_results.proofs.Prelude.{slice_get, IfNone, option_map, SparseMatrixView, SparseVectorView, Call, Object, after_all, Store, empty_store, Content, content_at, IsAt, MayRead, is_assembled_content, SharedContent, Learnt, Table, IsKept, IsLast, IsReady, ReadsObject, last_of, IsLearnt, IsResult, IsTable, IsSettledAt, content_of, some_same}
+use Rattle.std.proofs.Common.{◌≡◌, ℕ, zero, suc, ◌-◌, ◌≤◌, true, List, [], ◌∷◌, length, take, refl, sym, ap, subst, ◌∙◌, Option, Some, None, slice_set, length-set, arith}
+use Rattle.grb_results.proofs.Prelude.{slice_get, IfNone, option_map, SparseMatrixView, SparseVectorView, Call, Object, after_all, Store, empty_store, Content, content_at, IsAt, MayRead, is_assembled_content, SharedContent, Learnt, Table, IsKept, IsLast, IsReady, ReadsObject, last_of, IsLearnt, IsApart, IsResult, IsTable, IsSettledAt, content_of, some_same}
 use Rattle.grb_call.specs.declared.ids.MatrixId.{MatrixId}
 use Rattle.grb_call.specs.declared.ids.VectorId.{VectorId}
 use Rattle.grb_call.specs.declared.ids.Object.TheVariants as object
 use Rattle.grb_objects.specs.declared.shared_content.SharedContent.TheVariants as shared
 use Rattle.grb_results.proofs.Lists.{AtSet, Other, Here, set_at}
 use Rattle.grb_results.proofs.Making.{at_of}
+use Rattle.grb_results.proofs.Settled.{settled_set, within_still}
 
 -- one result at most is the last of an object
 module _ (t : Table) (o : Object) where
@@ -99,11 +100,13 @@ content_before : (rs : List (Option SharedContent)) (k : ℕ) (q : Option Shared
 content_before rs k None v stood e = cc
 content_before rs k (Some w) v stood e = record { value = w; stood = stood; same = some_same (content_of v) (content_of w) e }
 
-pub table_settled : (old new : Table) (at : ℕ) → IsSettledAt at old.results.items new.results.items → new.learnt ≡ old.learnt → (cs : List Call) → IsTable cs old → IsTable cs new
-table_settled old new at settled learnt cs was = record {
+pub table_settled : (old new : Table) (at : ℕ) → IsSettledAt at old.results.items new.results.items → new.learnt ≡ old.learnt → new.settled ≤ old.settled → (cs : List Call) → IsTable cs old → IsApart old at → IsTable cs new
+table_settled old new at settled learnt fewer cs was apart = record {
   learnt = subst (λ (l : Learnt). IsLearnt cs l) (sym learnt) was.learnt;
   results = λ k v stands. is k v (by k v (set_at old.results.items at settled.after k (Some v) (sym (ap (λ (rs : List (Option SharedContent)). slice_get rs k) settled.set) ∙ stands)));
   places = ap length settled.set ∙ (length-set old.results.items at settled.after ∙ (was.places ∙ ap (λ (l : Learnt). length l.nodes.items) (sym learnt)));
+  settled = settled_set old new learnt fewer at settled.after apart settled.set was.settled;
+  within = within_still old new learnt fewer was.within;
 }
   where
     by : (k : ℕ) (v : SharedContent) → AtSet old.results.items at settled.after k (Some v) → Before old.results.items k v

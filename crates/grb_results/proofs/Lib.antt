@@ -8,3 +8,4 @@ pub mod Lists
 mod Making
 mod Prelude
 pub mod Rebuilt
+mod Settled

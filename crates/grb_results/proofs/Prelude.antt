@@ -15,9 +15,9 @@ pub use Rattle.grb_links.specs.Lasts.{last_of}
 pub use Rattle.grb_links.specs.Learnt.{AreOneHistory, Follows, IsLearnt, contents_after, target_in}
 pub use Rattle.grb_links.specs.Overwrites.{blank_of, forgets, inputs_of, is_clear, objects_needed, shape_at, shape_noted, shape_of_any}
 pub use Rattle.grb_links.specs.declared.learnt.Learnt.{Learnt}
-pub use Rattle.grb_results.specs.Exchanged.{AreLeft, AreMatricesOf, AreVectorsOf, Begins, IsLastKept, OfEach}
-pub use Rattle.grb_results.specs.Kept.{AreKept, AreReady, IsKept, IsKeptAt, IsKeptOf, IsLast, IsReady, IsReadyIfThere, IsSameBut, IsTableOf, KeepsAll, ReadsObject}
-pub use Rattle.grb_results.specs.Results.{AreHeld, AreResults, AreTaken, IsBlankAt, IsFrom, IsResult, IsTable, IsToMake, LinksTo, MayMake, Mine, Theirs}
+pub use Rattle.grb_results.specs.Exchanged.{AreLeft, AreMatricesOf, AreVectorsOf, Begins, IsLastKept, IsTakenFrom, OfEach}
+pub use Rattle.grb_results.specs.Kept.{AreKept, AreReady, IsKept, IsKeptAt, IsKeptOf, IsLast, IsReady, IsReadyIfThere, IsSameBut, IsTableOf, KeepsAll, KeepsAlso, ReadsObject}
+pub use Rattle.grb_results.specs.Results.{AreHeld, AreResults, AreSettled, AreTaken, IsApart, IsBlankAt, IsFrom, IsReadyAfter, IsReadyAt, IsResult, IsTable, IsToMake, LinksTo, MayMake, Mine, Theirs}
 pub use Rattle.grb_results.specs.Settling.{IsSettledAt}
 pub use Rattle.grb_results.specs.Value.{IsEdit, content_of}
 pub use Rattle.grb_results.specs.declared.table.Table.{Table}
@@ -32,4 +32,4 @@ pub use Rattle.grb_objects.specs.declared.shared_content.SharedContent.{SharedCo
 pub use Rattle.std.proofs.lemmas.List.{length_push, map_push}
 pub use Rattle.std.proofs.lemmas.Result.{on_ok_weaker}
 pub use Rattle.std.specs.Option.{option_map, option_map_or, option_or}
-pub use Rattle.std.specs.Prelude.{Err, IfNone, IfOk, IfSome, Ok, OnOk, Result, slice_get}
+pub use Rattle.std.specs.Prelude.{Err, IfNone, IfOk, IfSome, Ok, OnErr, OnOk, Result, slice_get}

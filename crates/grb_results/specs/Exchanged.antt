@@ -1,6 +1,6 @@
 -- inside: no public contract names it. What functions make of the results that a table keeps: some are given out, some dropped, some taken
 -- from a state (own).
-use Rattle.std.specs.Prelude.{◌≡◌, ℕ, suc, Bool, true, List, slice_get, take, Option, Some}
+use Rattle.std.specs.Prelude.{◌≡◌, ℕ, suc, Bool, true, List, length, slice_get, take, Option, Some}
 use Rattle.std.specs.Option.{option_map_or}
 use Rattle.grb_sparse.specs.Matrix.{SparseMatrixView}
 use Rattle.grb_sparse.specs.Vector.{SparseVectorView}
@@ -13,6 +13,7 @@ use Rattle.grb_objects.specs.Stored.{stored_matrices, stored_vectors}
 use Rattle.grb_objects.specs.declared.shared_content.SharedContent.{SharedContent}
 use Rattle.grb_results.specs.declared.table.Table.{Table}
 use Rattle.grb_results.specs.Kept.{IsSameBut, IsTableOf, KeepsAll}
+use Rattle.grb_results.specs.Results.{AreTaken}
 use Rattle.grb_links.specs.Lasts.{last_of}
 
 -- this is kept as the result of the call that last changed the object
@@ -24,6 +25,14 @@ pub record IsLastKept (t : Table) (o : Object) (v : SharedContent) : Type 0 wher
 -- no result is kept that was not kept before
 abbrev pub AreLeft : List (Option SharedContent) → List (Option SharedContent) → Type 0
 AreLeft old new = (k : ℕ) (v : SharedContent) → slice_get new k ≡ Some (Some v) → slice_get old k ≡ Some (Some v)
+
+-- results were taken from another table, and none was lost
+pub record IsTakenFrom (old other new : Table) : Type 0 where
+  pub taken : AreTaken old.results.items other.results.items new.results.items
+  pub places : length new.results.items ≡ length old.results.items
+  pub settled : new.settled ≡ old.settled
+  pub stays : KeepsAll old new
+  pub same : IsSameBut old new
 
 -- results were taken from a store, as that of the calls learnt
 pub record Begins (s : Store) (old new : Table) : Type 0 where

@@ -1,5 +1,5 @@
 -- believed: Which objects a table has as they are after the calls that it learnt (own).
-use Rattle.std.specs.Prelude.{◌≡◌, ◌<◌, ℕ, suc, false, true, List, length, slice_get, None, Some, All}
+use Rattle.std.specs.Prelude.{◌≡◌, ◌<◌, ◌≤◌, ℕ, suc, false, true, List, length, slice_get, None, Some, All}
 use Rattle.grb_call.specs.declared.call.Call.{Call}
 use Rattle.grb_call.specs.declared.ids.Object.{Object}
 use Rattle.grb_call.specs.After.{refused}
@@ -73,6 +73,20 @@ AreKept cs ks = All (IsKeptOf cs) ks
 -- no result that was kept is lost, or another one
 abbrev pub KeepsAll : Table → Table → Type 0
 KeepsAll old new = (k : ℕ) (v : SharedContent) → slice_get old.results.items k ≡ Some (Some v) → slice_get new.results.items k ≡ Some (Some v)
+
+-- what is kept of the calls at other places stays
+abbrev pub KeepsOthers : Table → ℕ → Table → Type 0
+KeepsOthers old at new = (k : ℕ) → (k ≡ at → ⊥) → slice_get new.results.items k ≡ slice_get old.results.items k
+
+-- what is kept of the calls from this place on stays
+abbrev pub KeepsFrom : ℕ → Table → Table → Type 0
+KeepsFrom count old new = (k : ℕ) → count ≤ k → slice_get new.results.items k ≡ slice_get old.results.items k
+
+-- the call at this place is the last that changed an object which is there
+pub record IsLastCall (t : Table) (k : ℕ) : Type 0 where
+  pub object : Object
+  pub last : last_of t.learnt.lasts object ≡ suc k
+  pub live : is_live t.learnt.shapes.objects object ≡ true
 
 -- what the first calls of a list were learnt of stays, but the results
 pub record IsSameBut (old new : Table) : Type 0 where

@@ -1,5 +1,5 @@
 //! What a table has of objects: whether one lies ready, and the reply to a call that only reads one.
-ghost use Rattle.std.specs.Prelude.{◌≡◌, ◌<◌, true, List, Some, length, slice_get, IfSome, IfNone, OnOk, OnErr};
+ghost use Rattle.std.specs.Prelude.{◌≡◌, ◌+◌, ◌<◌, true, List, Some, length, slice_get, IfSome, IfNone, OnOk, OnErr};
 ghost use Rattle.std.specs.Option.{option_map};
 ghost use Rattle.grb_sparse.specs.Matrix.{SparseMatrixView};
 ghost use Rattle.grb_sparse.specs.Vector.{SparseVectorView};
@@ -8,6 +8,7 @@ ghost use Rattle.grb_call.specs.declared.ids.Object.{Object};
 ghost use Rattle.grb_call.specs.After.{reply_of};
 ghost use Rattle.grb_call.specs.History.{after_all};
 ghost use Rattle.grb_call.specs.Store.{empty_store};
+ghost use Rattle.grb_links.specs.Lasts.{last_of};
 ghost use Rattle.grb_states.specs.Settled.{settles};
 ghost use Rattle.grb_objects.specs.declared.shared_content.SharedContent.{SharedContent};
 ghost use Rattle.grb_objects.specs.SharedContent.{is_assembled_content};
@@ -88,6 +89,24 @@ impl Table {
         }
     }
 
+    /// Does the changes that wait in the result of the call at this place, if one is kept. `AllocError` where memory is refused.
+    pub(crate) fn assemble(&mut self, at: usize) -> Result<(), AllocError>
+        ensures table { (cs : List Call) → IsTable cs self.old → IsTable cs self.new }
+        ensures same { IsSameBut self.old self.new }
+        ensures places { length self.new.results.items ≡ length self.old.results.items }
+        ensures kept { (o : Object) → last_of self.old.learnt.lasts o ≡ at + 1 → IsKept self.old o → IsKept self.new o }
+        ensures ready { OnOk result ((o : Object) → last_of self.old.learnt.lasts o ≡ at + 1 → IsKept self.old o → IsReady self.new o) }
+    {
+        let Some(value) = self.kept(at) else {
+            return Ok(());
+        };
+        if value.is_assembled() {
+            return Ok(());
+        }
+        self.unsettle(at);
+        assemble_at(self.alloc, &mut self.results, at)
+    }
+
     /// Does the changes that wait in the last result of the object, which is kept: where it lies, if nothing else holds it. `AllocError` where
     /// memory is refused; the entries are as before in any case.
     pub fn assemble_last(&mut self, object: Object) -> Result<(), AllocError>
@@ -98,7 +117,7 @@ impl Table {
         ensures ready { OnOk result (IsReady self.new object) }
     {
         let count = self.learnt.last_of(object);
-        assemble_at(self.alloc, &mut self.results, count as usize - 1)
+        self.assemble(count as usize - 1)
     }
 
     /// Whether so many changes wait in the last result of the object that it pays to do them. Takes no memory.

@@ -26,23 +26,6 @@ fn object_at(objects: &[Object], at: usize) -> Object
 }
 
 impl Table {
-    /// Does the changes that wait in the result of the call at this place, if one is kept. `AllocError` where memory is refused.
-    fn assemble(&mut self, at: u32) -> Result<(), AllocError>
-        ensures table { (cs : List Call) → IsTable cs self.old → IsTable cs self.new }
-        ensures learnt { self.new.learnt ≡ self.old.learnt }
-        ensures places { length self.new.results.items ≡ length self.old.results.items }
-    {
-        match self.take(at as usize) {
-            Some(value) => {
-                let mut value = value;
-                let done = value.assemble(self.alloc);
-                self.put(at as usize, value);
-                done
-            }
-            None => Ok(()),
-        }
-    }
-
     /// Does the changes that wait in what the call at this place reads. `AllocError` where memory is refused.
     fn assemble_read(&mut self, at: u32) -> Result<(), AllocError>
         requires { at < length self.old.learnt.nodes.items }
@@ -54,7 +37,7 @@ impl Table {
         'links: for place in 0..4 {
             let link = links[place];
             if link > 0 {
-                self.assemble(link - 1)?;
+                self.assemble(link as usize - 1)?;
             }
         }
         Ok(())

@@ -10,7 +10,7 @@ use grb_slices::CallList;
 
 impl Table {
     /// The last of so many calls, if no result of it is kept.
-    fn to_make(&self, count: u32) -> Option<&Node>
+    fn to_make(&self, count: u32) -> Option<Node>
         ensures { IfSome result (λ node. (0 < count) × (count ≤ length self.now.learnt.nodes.items)) }
     {
         if count == 0 || self.kept(count as usize - 1).is_some() {
@@ -72,7 +72,7 @@ impl Table {
                 return work;
             };
             let call = calls.call_at(source, count as usize - 1);
-            work = work.saturating_add(self.work_of_node(node, call));
+            work = work.saturating_add(self.work_of_node(&node, call));
             count = node.links[0];
         }
         UNKNOWN_WORK

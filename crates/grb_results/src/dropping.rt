@@ -1,36 +1,12 @@
 //! Results that nothing needs any more.
-ghost use Rattle.std.specs.Prelude.{◌≡◌, ◌<◌, List, length};
+ghost use Rattle.std.specs.Prelude.{◌≡◌, List, length};
 ghost use Rattle.grb_call.specs.declared.call.Call.{Call};
-ghost use Rattle.grb_results.specs.Exchanged.{AreLeft};
 ghost use Rattle.grb_results.specs.Kept.{IsSameBut};
 ghost use Rattle.grb_results.specs.Results.{IsTable};
 
-use crate::table::{Table, take_place};
+use crate::table::Table;
 use grb_links::{clear_all, is_marked};
-use grb_objects::SharedContent;
 use std::alloc::AllocError;
-
-/// Drops what is kept at this place, if that is not needed.
-fn drop_unless(results: &mut Vec<Option<SharedContent>>, at: usize, needed: bool)
-    requires { at < length results.old.items }
-    ensures left { AreLeft results.old.items results.new.items }
-    ensures places { length results.new.items ≡ length results.old.items }
-{
-    if needed {
-        return;
-    }
-    let _dropped = take_place(results, at);
-}
-
-/// Drops what is kept at places that are not marked.
-fn drop_unmarked(results: &mut Vec<Option<SharedContent>>, marks: &[bool])
-    ensures left { AreLeft results.old.items results.new.items }
-    ensures places { length results.new.items ≡ length results.old.items }
-{
-    'places: for at in 0..results.len() {
-        drop_unless(results, at, is_marked(marks, at));
-    }
-}
 
 impl Table {
     /// Marks what the call at this place reads, if it is needed itself and no result of it is kept.
@@ -61,6 +37,7 @@ impl Table {
     /// Notes anew what is read: by calls that are needed and of which no result is kept.
     fn note_reads(&mut self, marks: &[bool])
         ensures results { self.new.results ≡ self.old.results }
+        ensures settled { self.new.settled ≡ self.old.settled }
         ensures same { IsSameBut self.old self.new }
     {
         clear_all(&mut self.reads);
@@ -69,6 +46,29 @@ impl Table {
                 let learnt = &self.learnt;
                 learnt.mark_others(&mut self.reads, at);
             }
+        }
+    }
+
+    /// Drops what is kept at this place, if that is not needed.
+    fn drop_unless(&mut self, at: usize, needed: bool)
+        ensures table { (cs : List Call) → IsTable cs self.old → IsTable cs self.new }
+        ensures same { IsSameBut self.old self.new }
+        ensures places { length self.new.results.items ≡ length self.old.results.items }
+    {
+        if needed {
+            return;
+        }
+        let _dropped = self.take(at);
+    }
+
+    /// Drops what is kept at places that are not marked.
+    fn drop_unmarked(&mut self, marks: &[bool])
+        ensures table { (cs : List Call) → IsTable cs self.old → IsTable cs self.new }
+        ensures same { IsSameBut self.old self.new }
+        ensures places { length self.new.results.items ≡ length self.old.results.items }
+    {
+        'places: for at in 0..self.results.len() {
+            self.drop_unless(at, is_marked(marks, at));
         }
     }
 
@@ -81,8 +81,9 @@ impl Table {
     {
         match self.needed() {
             Ok(marks) => {
-                drop_unmarked(&mut self.results, &marks);
+                self.drop_unmarked(&marks);
                 self.note_reads(&marks);
+                self.freed = 0;
             }
             Err(_refused) => {}
         }
@@ -91,6 +92,7 @@ impl Table {
     /// Notes what each call reads, whether a result of it is kept or not.
     fn note_all_reads(&mut self)
         ensures results { self.new.results ≡ self.old.results }
+        ensures settled { self.new.settled ≡ self.old.settled }
         ensures same { IsSameBut self.old self.new }
     {
         'places: for at in 0..self.results.len() {
@@ -104,19 +106,22 @@ impl Table {
         ensures table { (cs : List Call) → IsTable cs self.old → IsTable cs self.new }
         ensures same { IsSameBut self.old self.new }
     {
-        drop_unmarked(&mut self.results, &[]);
+        self.settled = 0;
+        self.drop_unmarked(&[]);
         self.note_all_reads();
+        self.freed = 0;
+        self.taken.clear();
     }
 
-    /// How many entries the results have that are kept, and 16 for each call learnt.
-    fn extent(&self) -> u64 {
-        let mut extent = (self.learnt.count() as u64).saturating_mul(16);
+    /// How many entries the results have that are kept. Takes no memory.
+    pub fn entries(&self) -> u64 {
+        let mut entries: u64 = 0;
         'results: for at in 0..self.results.len() {
             if let Some(content) = self.kept(at) {
-                extent = extent.saturating_add(content.nvals());
+                entries = entries.saturating_add(content.nvals());
             }
         }
-        extent
+        entries
     }
 
     /// Sweeps, as [`Table::sweep`] does, where what was made since the last time took more work than 16 for each call learnt and 1 for each
@@ -130,6 +135,82 @@ impl Table {
             return;
         }
         self.sweep();
-        self.swept = self.work.saturating_add(self.extent());
+        let calls = (self.learnt.count() as u64).saturating_mul(16);
+        self.swept = self
+            .work
+            .saturating_add(calls)
+            .saturating_add(self.entries());
+    }
+
+    /// Whether the last of the calls learnt changed an object and needs nothing of what that held before.
+    fn last_forgets(&self) -> bool {
+        let Ok(last) = u32::try_from(self.learnt.count().saturating_sub(1)) else {
+            return false;
+        };
+        let Some(node) = self.learnt.node(last as usize) else {
+            return false;
+        };
+        match node.target {
+            Some(object) => {
+                !self.learnt.contains(object) || self.learnt.own_before(last).is_none()
+            }
+            None => false,
+        }
+    }
+
+    /// The last of the calls learnt may have ended what its object held before it, after so many calls: then what is kept of that is dropped
+    /// where nothing else is known to read it, and its entries are counted.
+    pub(crate) fn let_go(&mut self, before: u32)
+        ensures table { (cs : List Call) → IsTable cs self.old → IsTable cs self.new }
+        ensures same { IsSameBut self.old self.new }
+    {
+        if before == 0 || !self.last_forgets() {
+            return;
+        }
+        let mut at = before - 1;
+        let mut read = false;
+        'back: for _ in 0..before {
+            read = read || !self.is_free_to_change(at);
+            if self.kept(at as usize).is_some() {
+                self.drop_or_count(at, read);
+                return;
+            }
+            match self.learnt.own_before(at) {
+                Some(earlier) => at = earlier,
+                None => return,
+            }
+        }
+    }
+
+    /// The result of the call at this place is not needed by its object any more: it is dropped, unless something else is known to read it.
+    fn drop_or_count(&mut self, at: u32, read: bool)
+        ensures table { (cs : List Call) → IsTable cs self.old → IsTable cs self.new }
+        ensures same { IsSameBut self.old self.new }
+    {
+        let entries = self.entries_at(at);
+        if read {
+            self.freed = self.freed.saturating_add(entries);
+        } else {
+            self.ended = self.ended.saturating_add(entries);
+            let _dropped = self.take(at as usize);
+        }
+    }
+
+    /// Sweeps, where calls have ended results that are kept of more than 16 entries for each call learnt. Whether results of so many entries
+    /// were ended since it was last so, dropped or not.
+    pub(crate) fn sweep_ended(&mut self) -> bool
+        ensures table { (cs : List Call) → IsTable cs self.old → IsTable cs self.new }
+        ensures same { IsSameBut self.old self.new }
+    {
+        let most = (self.learnt.count() as u64).saturating_mul(16);
+        if self.freed.saturating_add(self.ended) <= most {
+            return false;
+        }
+        self.ended = 0;
+        if self.freed <= most {
+            return true;
+        }
+        self.sweep();
+        true
     }
 }

@@ -3,7 +3,7 @@ ghost use Rattle.std.specs.Prelude.{◌≡◌, ◌<◌, true, false, List, Some,
 ghost use Rattle.std.specs.Option.{option_map};
 ghost use Rattle.grb_call.specs.declared.call.Call.{Call};
 ghost use Rattle.grb_objects.specs.declared.shared_content.SharedContent.{SharedContent};
-ghost use Rattle.grb_results.specs.Kept.{AreKept, IsKeptAt, IsSameBut, KeepsAll};
+ghost use Rattle.grb_results.specs.Kept.{AreKept, IsKeptAt, IsLastCall, IsSameBut, KeepsAll, KeepsOthers};
 ghost use Rattle.grb_results.specs.Results.{AreTaken, IsResult, IsTable};
 ghost use Rattle.grb_results.specs.Value.{content_of};
 
@@ -27,7 +27,9 @@ impl Table {
         ensures table { (cs : List Call) → IsTable cs self.old → IsResult cs at value → IsTable cs self.new }
         ensures same { IsSameBut self.old self.new }
         ensures stays { KeepsAll self.old self.new }
+        ensures others { KeepsOthers self.old at self.new }
         ensures places { length self.new.results.items ≡ length self.old.results.items }
+        ensures settled { self.new.settled ≡ self.old.settled }
         ensures kept { at < length self.old.results.items → IsKeptAt self.new at }
     {
         if at >= self.results.len() {
@@ -36,6 +38,7 @@ impl Table {
         if let Some(_kept) = self.kept(at) {
             return;
         }
+        self.recent.note(at);
         self.results[at] = Some(value);
     }
 
@@ -45,6 +48,7 @@ impl Table {
         ensures table { (cs : List Call) → IsTable cs self.old → IsResult cs kept.now.at kept.now.content → IsTable cs self.new }
         ensures same { IsSameBut self.old self.new }
         ensures stays { KeepsAll self.old self.new }
+        ensures others { KeepsOthers self.old kept.now.at self.new }
     {
         if self.kept(kept.at as usize).is_some() {
             return Ok(());
@@ -86,6 +90,20 @@ impl Table {
             return Ok(());
         }
         self.give_at(given, count - 1)
+    }
+
+    /// Whether the call at this place is the last that changed an object which is there after the calls learnt. Takes no memory.
+    pub fn is_last(&self, at: u32) -> bool
+        ensures { result ≡ true → IsLastCall self.now at }
+    {
+        let Some(node) = self.learnt.node(at as usize) else {
+            return false;
+        };
+        let Some(object) = node.target else {
+            return false;
+        };
+        let count = self.learnt.last_of(object);
+        self.learnt.contains(object) && count > at && count - at == 1
     }
 
     /// The last results of the objects that are there after the calls learnt and lie ready. No entry is copied. `AllocError` where memory is

@@ -6,6 +6,7 @@
 //! tests count the calls.
 #![tactic(auto)]
 
+mod adopting;
 mod answers;
 mod computed;
 mod costs;
@@ -16,6 +17,7 @@ mod learning;
 mod made;
 mod preparing;
 mod rebuilding;
+mod recent;
 mod runs;
 mod settling;
 mod table;

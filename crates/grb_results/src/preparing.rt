@@ -1,21 +1,26 @@
 //! How much is left to make of what objects hold.
 ghost use Rattle.std.specs.Prelude.{◌≡◌};
-ghost use Rattle.grb_results.specs.Kept.{IsTableOf};
+ghost use Rattle.grb_results.specs.Kept.{IsSameBut, IsTableOf};
 
 use crate::table::Table;
 use grb_links::is_marked;
 use grb_slices::CallList;
 
 impl Table {
-    /// How much work it is, about, to make what all objects hold that are there, each by itself, as [`Table::work_for`] has it.
-    pub fn work_for_all<S, C: CallList<S>>(&self, calls: &mut C, source: &S) -> u64
+    /// How much work it is, about, to make what all objects hold that are there and are not settled, each by itself, as [`Table::work_for`] has
+    /// it.
+    pub fn work_for_all<S, C: CallList<S>>(&mut self, calls: &mut C, source: &S) -> u64
         requires held { C.is_in source.now calls.old }
-        requires table { IsTableOf (C.calls source.now calls.old) self.now }
+        requires table { IsTableOf (C.calls source.now calls.old) self.old }
         ensures same { calls.new ≡ calls.old }
+        ensures table { IsTableOf (C.calls source.now calls.old) self.new }
+        ensures learnt { IsSameBut self.old self.new }
+        ensures results { self.new.results ≡ self.old.results }
     {
         let mut work: u64 = 0;
-        'objects: for place in 0..self.learnt.objects() {
-            if let Some(object) = self.learnt.live_at(place) {
+        'calls: for at in self.settled..self.count() {
+            self.looks = self.looks.saturating_add(1);
+            if let Some(object) = self.last_at(at) {
                 work = work.saturating_add(self.work_for(calls, source, object));
             }
         }

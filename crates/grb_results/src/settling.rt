@@ -1,15 +1,12 @@
 //! All objects that are there, evaluated, with no change left that waits.
 ghost use Rattle.std.specs.Prelude.{◌≡◌, true, List, length, OnOk, OnErr};
 ghost use Rattle.grb_call.specs.declared.call.Call.{Call};
-ghost use Rattle.grb_call.specs.declared.ids.MatrixId.{MatrixId};
-ghost use Rattle.grb_call.specs.declared.ids.Object.{Object};
-ghost use Rattle.grb_call.specs.declared.ids.VectorId.{VectorId};
 ghost use Rattle.grb_call.specs.Shapes.{is_live};
-ghost use Rattle.grb_results.specs.Kept.{AreReady, IsReadyIfThere, IsTableOf};
-ghost use Rattle.grb_results.specs.Results.{IsTable};
+ghost use Rattle.grb_results.specs.Kept.{AreReady, IsSameBut, IsTableOf};
+ghost use Rattle.grb_results.specs.Results.{IsReadyAfter, IsTable};
 
 use crate::table::Table;
-use grb_call::{Call, MatrixId, Object, VectorId};
+use grb_call::{Call, Object};
 use grb_objects::Operates;
 use grb_slices::CallList;
 use std::alloc::AllocError;
@@ -22,68 +19,61 @@ impl Table {
         self.learnt.contains(object)
     }
 
-    /// Whether the object lies ready, if it is there. Takes no memory.
-    fn is_ready_if_there(&self, object: Object) -> bool
-        ensures ready { result ≡ true → IsReadyIfThere self.now object }
-        ensures lacks { IsReadyIfThere self.now object → result ≡ true }
+    /// Whether each object that is there after the calls learnt lies ready: those are looked at alone that were changed after the calls of which
+    /// that was seen before. Takes no memory.
+    pub fn are_ready(&mut self) -> bool
+        ensures table { (cs : List Call) → IsTable cs self.old → IsTable cs self.new }
+        ensures results { self.new.results ≡ self.old.results }
+        ensures same { IsSameBut self.old self.new }
+        ensures ready { (cs : List Call) → IsTable cs self.old → result ≡ true → AreReady self.new }
+        ensures lacks { AreReady self.old → result ≡ true }
     {
-        if self.learnt.contains(object) {
-            self.is_ready(object)
-        } else {
-            true
-        }
-    }
-
-    /// Whether each matrix lies ready that is there. Takes no memory.
-    fn are_matrices_ready(&self) -> bool
-        ensures ready { result ≡ true → (a : MatrixId) → IsReadyIfThere self.now (Object.Matrix a) }
-        ensures lacks { ((a : MatrixId) → IsReadyIfThere self.now (Object.Matrix a)) → result ≡ true }
-    {
-        for n in 0..self.learnt.matrices() {
-            if !self.is_ready_if_there(Object::Matrix(MatrixId(n))) {
+        'calls: for at in self.settled..self.count() {
+            self.looks = self.looks.saturating_add(1);
+            if !self.is_last_ready(at) {
                 return false;
             }
+            self.settled = at + 1;
         }
         true
     }
 
-    /// Whether each vector lies ready that is there. Takes no memory.
-    fn are_vectors_ready(&self) -> bool
-        ensures ready { result ≡ true → (v : VectorId) → IsReadyIfThere self.now (Object.Vector v) }
-        ensures lacks { ((v : VectorId) → IsReadyIfThere self.now (Object.Vector v)) → result ≡ true }
-    {
-        for n in 0..self.learnt.vectors() {
-            if !self.is_ready_if_there(Object::Vector(VectorId(n))) {
-                return false;
-            }
-        }
-        true
-    }
-
-    /// Whether each object that is there after the calls learnt lies ready. Takes no memory.
-    pub fn are_ready(&self) -> bool
-        ensures ready { result ≡ true → AreReady self.now }
+    /// Whether the object that the call at this place was the last to change lies ready, if it is there.
+    fn is_last_ready(&self, at: usize) -> bool
+        ensures ready { result ≡ true → (cs : List Call) → IsTable cs self.now → IsReadyAfter self.now at }
         ensures lacks { AreReady self.now → result ≡ true }
     {
-        self.are_matrices_ready() && self.are_vectors_ready()
+        match self.last_at(at) {
+            Some(object) => self.is_ready(object),
+            None => true,
+        }
     }
 
-    /// Makes what the object holds, which is there, and has the changes done that wait in it. `AllocError` where memory is refused.
+    /// How many objects were looked at to wait for all, and how many places to adopt results, in all. Takes no memory.
+    pub fn looks(&self) -> u64 {
+        self.looks
+    }
+
+    /// Makes what the object holds that the call at this place was the last to change, if it is there, and has the changes done that wait in it.
+    /// `AllocError` where memory is refused.
     fn make_ready<S, C: CallList<S>, O: Operates>(
         &mut self,
         bench: &mut O,
         stack: &mut Vec<u32>,
         calls: &mut C,
         source: &S,
-        object: Object,
+        at: usize,
     ) -> Result<(), AllocError>
         requires held { C.is_in source.now calls.old }
         requires table { IsTableOf (C.calls source.now calls.old) self.old }
-        requires live { is_live self.old.learnt.shapes.objects object ≡ true }
         ensures same { calls.new ≡ calls.old }
         ensures table { IsTable (C.calls source.now calls.old) self.new }
         ensures learnt { self.new.learnt ≡ self.old.learnt }
     {
+        self.looks = self.looks.saturating_add(1);
+        let Some(object) = self.last_at(at) else {
+            return Ok(());
+        };
         self.make(bench, stack, calls, source, object)?;
         self.assemble_last(object)
     }
@@ -103,10 +93,8 @@ impl Table {
         ensures learnt { self.new.learnt ≡ self.old.learnt }
         ensures ready { OnOk result (AreReady self.new) }
     {
-        'objects: for place in 0..self.learnt.objects() {
-            if let Some(object) = self.learnt.live_at(place) {
-                self.make_ready(bench, stack, calls, source, object)?;
-            }
+        'calls: for at in self.settled..self.count() {
+            self.make_ready(bench, stack, calls, source, at)?;
         }
         if !self.are_ready() {
             return Err(AllocError);
@@ -114,8 +102,8 @@ impl Table {
         Ok(())
     }
 
-    /// Makes what each object holds that is there after these calls, which were all learnt, and has all changes done. Nothing is done where all
-    /// lie ready. `AllocError` where memory is refused; what was made stays so.
+    /// Makes what each object holds that is there after these calls, which were all learnt, and has all changes done. Nothing is made where all
+    /// lie ready, and no object is looked at that was settled before and not changed since. `AllocError` where memory is refused; what was made stays so.
     ///
     /// Source: GraphBLAS C API 2.0, `GrB_MATERIALIZE`; that it is for all objects is own.
     pub fn settle_all<S, C: CallList<S>, O: Operates>(
@@ -131,7 +119,7 @@ impl Table {
         ensures table { IsTable (C.calls source.now calls.old) self.new }
         ensures learnt { self.new.learnt ≡ self.old.learnt }
         ensures ready { OnOk result (AreReady self.new) }
-        ensures stays { AreReady self.old → self.new ≡ self.old }
+        ensures stays { AreReady self.old → (self.new.results ≡ self.old.results) × IsSameBut self.old self.new }
         ensures memory { OnErr result (AreReady self.old → ⊥) }
     {
         if self.are_ready() {

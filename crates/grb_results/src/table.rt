@@ -6,11 +6,12 @@ ghost use Rattle.grb_call.specs.Store.{empty_store};
 ghost use Rattle.grb_call.specs.History.{after_all};
 ghost use Rattle.grb_slices.specs.Content.{content_at};
 ghost use Rattle.grb_links.specs.Lasts.{last_of};
-ghost use Rattle.grb_results.specs.Kept.{IsKept, IsKeptAt, IsLast, IsSameBut, KeepsAll, KeepsAlso};
-ghost use Rattle.grb_links.specs.Learnt.{AreOneHistory};
-ghost use Rattle.grb_results.specs.Results.{AreTaken, IsResult, IsTable};
+ghost use Rattle.grb_call.specs.Shapes.{is_live};
+ghost use Rattle.grb_results.specs.Kept.{IsKept, IsLast, IsSameBut};
+ghost use Rattle.grb_results.specs.Results.{IsApart, IsResult, IsTable};
 ghost use Rattle.grb_results.specs.Value.{content_of};
 
+use crate::recent::Recent;
 use grb_call::{Call, Object};
 use grb_links::{EDIT_WORK, Learnt};
 use grb_objects::SharedContent;
@@ -22,19 +23,26 @@ pub struct Table {
     pub(crate) alloc: Global,
     pub(crate) learnt: Learnt,
     pub(crate) results: Vec<Option<SharedContent>>,
+    // Each object that is there lies ready which one of so many first calls was the last to change.
+    pub(crate) settled: usize,
     // Which calls an operation or a dup reads, how many calls were made, and of how much work: no contract says any of it.
     pub(crate) reads: Vec<bool>,
     pub(crate) made: u32,
     pub(crate) work: u64,
-    // How much work there is when results are dropped next.
+    // How much work there is when results are dropped next, and how many entries results had that calls have ended: such as are kept, and
+    // such as were dropped at once.
     pub(crate) swept: u64,
+    pub(crate) freed: u64,
+    pub(crate) ended: u64,
+    // How many objects were looked at, to wait for all, and how many places, to adopt.
+    pub(crate) looks: u64,
+    // In which blocks of calls results were put last, and from which put on results of each other pass are new.
+    pub(crate) recent: Recent,
+    pub(crate) taken: Vec<u64>,
 }
 
 /// What stands at this place, which is left empty.
-pub(crate) fn take_place(
-    results: &mut Vec<Option<SharedContent>>,
-    at: usize,
-) -> Option<SharedContent>
+fn take_place(results: &mut Vec<Option<SharedContent>>, at: usize) -> Option<SharedContent>
     requires { at < length results.old.items }
     ensures empty { results.new.items ≡ slice_set results.old.items at None }
     ensures result { slice_get results.old.items at ≡ Some result }
@@ -43,59 +51,48 @@ pub(crate) fn take_place(
 }
 
 impl Table {
-    /// No call was learnt, and at most so many may be. `AllocError` where memory is refused.
-    pub fn open(alloc: Global, room: u32) -> Result<Table, AllocError>
-        ensures table { IfOk result (λ t. (cs : List Call) → IsTable cs t) }
-        ensures room { IfOk result (λ t. t.learnt.shapes.room ≡ room) }
-        ensures none { IfOk result (λ t. length t.learnt.nodes.items ≡ 0) }
-        ensures places { IfOk result (λ t. length t.results.items ≡ 0) }
-        ensures made { IfOk result (λ t. t.made ≡ 0) }
+    /// No call was learnt. Takes no memory.
+    pub fn open(alloc: Global) -> Table
+        ensures table { (cs : List Call) → IsTable cs result }
+        ensures none { length result.learnt.nodes.items ≡ 0 }
+        ensures places { length result.results.items ≡ 0 }
+        ensures made { result.made ≡ 0 }
     {
-        Ok(Table {
+        Table {
             alloc,
-            learnt: Learnt::open(alloc, room)?,
-            results: Vec::with_capacity(alloc, 0)?,
-            reads: Vec::with_capacity(alloc, 0)?,
+            learnt: Learnt::open(alloc),
+            results: Vec::new(alloc),
+            reads: Vec::new(alloc),
+            settled: 0,
             made: 0,
             work: 0,
             swept: 0,
-        })
+            freed: 0,
+            ended: 0,
+            looks: 0,
+            recent: Recent {
+                blocks: Vec::new(alloc),
+                puts: 0,
+            },
+            taken: Vec::new(alloc),
+        }
     }
 
     /// Learns the call that comes after those learnt: it is not made. `AllocError` where memory is refused; then it is not learnt.
     pub fn learn(&mut self, call: &Call) -> Result<(), AllocError>
-        requires room { 0 < self.old.learnt.shapes.room }
-        requires few { length self.old.learnt.nodes.items + self.old.learnt.shapes.room < 2 ^ 32 }
+        requires few { length self.old.learnt.nodes.items + 1 < 2 ^ 32 }
         ensures learnt { OnOk result ((cs : List Call) → IsTable cs self.old → slice_get cs (length self.old.learnt.nodes.items) ≡ Some call.now → IsTable cs self.new) }
         ensures grown { OnOk result ((cs : List Call) → IsTable cs self.old → length self.old.learnt.nodes.items ≡ length cs → IsTable (cs ++ call.now ∷ []) self.new) }
         ensures err { OnErr result ((cs : List Call) → IsTable cs self.old → IsTable cs self.new) }
         ensures more { OnOk result (length self.new.learnt.nodes.items ≡ length self.old.learnt.nodes.items + 1) }
-        ensures room { OnOk result (self.new.learnt.shapes.room + 1 ≡ self.old.learnt.shapes.room) }
-        ensures no_more { OnErr result ((length self.new.learnt.nodes.items ≡ length self.old.learnt.nodes.items) × (self.new.learnt.shapes.room ≡ self.old.learnt.shapes.room)) }
-        ensures all_room { length self.new.learnt.nodes.items + self.new.learnt.shapes.room ≡ length self.old.learnt.nodes.items + self.old.learnt.shapes.room }
-        ensures kept { OnOk result (self.new.results.items ≡ self.old.results.items ++ None ∷ []) }
-        ensures stays { OnErr result (self.new.results.items ≡ self.old.results.items) }
-        ensures made { self.new.made ≡ self.old.made }
-    {
-        self.learn_at_end(call)
-    }
-
-    /// The same, of each list in which the call stands at its place.
-    fn learn_at_end(&mut self, call: &Call) -> Result<(), AllocError>
-        requires room { 0 < self.old.learnt.shapes.room }
-        requires few { length self.old.learnt.nodes.items + self.old.learnt.shapes.room < 2 ^ 32 }
-        ensures learnt { OnOk result ((cs : List Call) → IsTable cs self.old → slice_get cs (length self.old.learnt.nodes.items) ≡ Some call.now → IsTable cs self.new) }
-        ensures err { OnErr result ((cs : List Call) → IsTable cs self.old → IsTable cs self.new) }
-        ensures more { OnOk result (length self.new.learnt.nodes.items ≡ length self.old.learnt.nodes.items + 1) }
-        ensures room { OnOk result (self.new.learnt.shapes.room + 1 ≡ self.old.learnt.shapes.room) }
-        ensures no_more { OnErr result ((length self.new.learnt.nodes.items ≡ length self.old.learnt.nodes.items) × (self.new.learnt.shapes.room ≡ self.old.learnt.shapes.room)) }
-        ensures all_room { length self.new.learnt.nodes.items + self.new.learnt.shapes.room ≡ length self.old.learnt.nodes.items + self.old.learnt.shapes.room }
+        ensures no_more { OnErr result (length self.new.learnt.nodes.items ≡ length self.old.learnt.nodes.items) }
         ensures kept { OnOk result (self.new.results.items ≡ self.old.results.items ++ None ∷ []) }
         ensures stays { OnErr result (self.new.results.items ≡ self.old.results.items) }
         ensures made { self.new.made ≡ self.old.made }
     {
         self.results.reserve(1)?;
         self.reads.reserve(1)?;
+        self.recent.reserve_for(self.results.len())?;
         self.learnt.learn(call)?;
         self.results.push_reserved(None);
         self.reads.push_reserved(false);
@@ -107,6 +104,7 @@ impl Table {
     fn mark(&mut self)
         ensures learnt { self.new.learnt ≡ self.old.learnt }
         ensures results { self.new.results ≡ self.old.results }
+        ensures settled { self.new.settled ≡ self.old.settled }
         ensures made { self.new.made ≡ self.old.made }
     {
         let learnt = &self.learnt;
@@ -219,6 +217,36 @@ impl Table {
         }
     }
 
+    /// The object which the call at this place was the last to change, if it is there. Takes no memory.
+    pub(crate) fn last_at(&self, at: usize) -> Option<Object>
+        ensures some { IfSome result (λ o. (is_live self.now.learnt.shapes.objects o ≡ true) × (last_of self.now.learnt.lasts o ≡ at + 1)) }
+        ensures all { (cs : List Call) (o : Object) → IsTable cs self.now → is_live self.now.learnt.shapes.objects o ≡ true → last_of self.now.learnt.lasts o ≡ at + 1 → result ≡ Some o }
+    {
+        if at >= self.learnt.count() {
+            return None;
+        }
+        let object = self.learnt.node_at(at).target?;
+        if self.learnt.last_of(object) as usize == at + 1 && self.learnt.contains(object) {
+            Some(object)
+        } else {
+            None
+        }
+    }
+
+    /// What is kept of the call at this place is about to change: where that is the last result of an object, only those stay settled that
+    /// calls before it changed.
+    pub(crate) fn unsettle(&mut self, at: usize)
+        ensures table { (cs : List Call) → IsTable cs self.old → IsTable cs self.new }
+        ensures learnt { self.new.learnt ≡ self.old.learnt }
+        ensures results { self.new.results ≡ self.old.results }
+        ensures made { self.new.made ≡ self.old.made }
+        ensures apart { (cs : List Call) → IsTable cs self.old → IsApart self.new at }
+    {
+        if at < self.settled && self.last_at(at).is_some() {
+            self.settled = at;
+        }
+    }
+
     /// Keeps this as the result of the call at this place. Takes no memory.
     pub(crate) fn put(&mut self, at: usize, value: SharedContent)
         requires { at < length self.old.results.items }
@@ -226,6 +254,8 @@ impl Table {
         ensures table { (cs : List Call) → IsTable cs self.old → IsResult cs at value → IsTable cs self.new }
         ensures learnt { self.new.learnt ≡ self.old.learnt }
     {
+        self.unsettle(at);
+        self.recent.note(at);
         self.results[at] = Some(value);
     }
 
@@ -244,12 +274,13 @@ impl Table {
         ensures table { (cs : List Call) → IsTable cs self.old → IsTable cs self.new }
         ensures result { (cs : List Call) → IsTable cs self.old → IfSome result (IsResult cs at) }
         ensures near { IfSome result (λ v. at < length self.old.results.items) }
-        ensures learnt { self.new.learnt ≡ self.old.learnt }
+        ensures same { IsSameBut self.old self.new }
         ensures places { length self.new.results.items ≡ length self.old.results.items }
     {
-        if at >= self.results.len() {
+        if at >= self.results.len() || self.kept(at).is_none() {
             return None;
         }
+        self.unsettle(at);
         take_place(&mut self.results, at)
     }
 
@@ -291,45 +322,5 @@ impl Table {
         ensures lacks { result ≡ false → IsKept self.now object → ⊥ }
     {
         self.last(object).is_some()
-    }
-
-    /// Keeps also the result that the other table keeps of the call at this place, where none is kept here. `AllocError` where 2^63 - 1
-    /// hold it.
-    fn take_one(&mut self, other: &Table, at: usize) -> Result<(), AllocError>
-        requires { at < length self.old.results.items }
-        ensures taken { AreTaken self.old.results.items other.now.results.items self.new.results.items }
-        ensures learnt { self.new.learnt ≡ self.old.learnt }
-        ensures places { length self.new.results.items ≡ length self.old.results.items }
-        ensures stays { KeepsAll self.old self.new }
-        ensures same { IsSameBut self.old self.new }
-        ensures kept { OnOk result (IsKeptAt other.now at → IsKeptAt self.new at) }
-    {
-        if let Some(_kept) = self.kept(at) {
-            return Ok(());
-        }
-        match other.kept(at) {
-            Some(value) => {
-                let shared = value.share()?;
-                self.fill(at, shared);
-                Ok(())
-            }
-            None => Ok(()),
-        }
-    }
-
-    /// Keeps also the results that the other table keeps of the calls that both have learnt, where none is kept here: nothing is copied.
-    /// `AllocError` where 2^63 - 1 hold one; what was taken stays so.
-    pub fn take_from(&mut self, other: &Table) -> Result<(), AllocError>
-        ensures taken { AreTaken self.old.results.items other.now.results.items self.new.results.items }
-        ensures learnt { self.new.learnt ≡ self.old.learnt }
-        ensures table { (cs ds : List Call) → IsTable cs self.old → IsTable ds other.now → AreOneHistory cs ds → IsTable cs self.new }
-        ensures stays { KeepsAll self.old self.new }
-        ensures same { IsSameBut self.old self.new }
-        ensures all { OnOk result (KeepsAlso other.now self.new) }
-    {
-        'results: for at in 0..self.results.len().min(other.results.len()) {
-            self.take_one(other, at)?;
-        }
-        Ok(())
     }
 }

@@ -1,8 +1,6 @@
 pub mod EffectiveTarget
 pub mod Effects
-pub mod Lists
 pub mod Live
-pub mod NextTarget
 pub mod Outputs
 pub mod Prelude
 pub mod Refusals

@@ -17,9 +17,7 @@ pub use Rattle.grb_core.specs.declared.refusal.Refusal.TheVariants.{DimensionMis
 pub use Rattle.grb_slices.specs.Content.{Content, Contents, MatrixContent, VectorContent, can_fill_matrix, can_fill_vector, content_at, content_made, effective_target, objects_held, filled_matrix, filled_vector, matrix_held, vector_held, outcome, output_made, target_of}
 pub use Rattle.grb_slices.specs.Slice.{Element, Entry, Known, Make, Origin, Recall, Sliced, Step, Wants, choices, chosen, entries, evaluated, is_among, needs, result_of, sliced, sliced_step, wants_before, with_content}
 pub use Rattle.grb_slices.specs.Steps.{AgreeOn, AreSteps, steps_of}
-pub use Rattle.grb_slices.specs.Targets.{targets_of}
-pub use Rattle.std.proofs.lemmas.List.{get_or-drop, length_push, take_more}
 pub use Rattle.std.specs.List.{list_all, list_any}
 pub use Rattle.std.specs.Option.{option_map_or, option_or}
 pub use Rattle.std.specs.Prelude.{slice_get, ◌==◌}
-pub use lib.ListN.{length-drop, length-map}
+pub use lib.ListN.{length-map}

@@ -2,4 +2,3 @@ pub mod Content
 pub mod Laws
 pub mod Slice
 pub mod Steps
-pub mod Targets

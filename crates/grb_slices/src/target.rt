@@ -21,8 +21,8 @@ fn next_object(shapes: &Shapes, call: &Call) -> Object
     }
 }
 
-/// The object that the call changes or makes, on objects of these shapes, where it is not refused. Takes no memory.
-pub fn target_of(shapes: &Shapes, call: &Call) -> Option<Object>
+/// The object that the call changes or makes, on objects of these shapes, where it is not refused.
+fn target_of(shapes: &Shapes, call: &Call) -> Option<Object>
     ensures { result ≡ target_of shapes.now.objects call.now }
 {
     match call.class() {

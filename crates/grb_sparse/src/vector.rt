@@ -153,6 +153,23 @@ impl SparseVector {
         self.held.rows()
     }
 
+    /// Whether both are the same vector, as [`SparseMatrix::is_same`](crate::SparseMatrix::is_same) has it of matrices. Takes no memory.
+    ///
+    /// Source: own.
+    pub fn is_same(&self, other: &SparseVector) -> bool
+        requires assembled { self.now.assembled ≡ true }
+        requires other { other.now.assembled ≡ true }
+        ensures { result ≡ true → self.now.vector ≡ other.now.vector }
+    {
+        if self.size != other.size {
+            return false;
+        }
+        if self.domain() != other.domain() {
+            return false;
+        }
+        self.nvals() == other.nvals() && self.lists().is_same(other.lists())
+    }
+
     /// The stored values of a vector of the domain `Bool`, in the order of their indices: of an assembled vector alone. Nothing is copied.
     ///
     /// Source: own.

@@ -1,2 +1,1 @@
-mod Living
 pub mod Applied

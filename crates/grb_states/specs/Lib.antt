@@ -1,4 +1,3 @@
-pub mod Live
 pub mod Objects
 pub mod Operation
 pub mod Settled

@@ -6,7 +6,6 @@
 #![tactic(auto)]
 
 mod copies;
-mod live;
 mod objects;
 mod parts;
 mod state;

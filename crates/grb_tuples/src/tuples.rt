@@ -116,6 +116,13 @@ fn are_vectors_alike(a: &VectorTuples, b: &VectorTuples) -> bool
     true
 }
 
+/// Whether two lists have the same tuples, in one order.
+fn are_vectors_listed(a: &[(u64, Value)], b: &[(u64, Value)]) -> bool
+    ensures { result ≡ true → a.now ≡ b.now }
+{
+    a == b
+}
+
 impl Eq for VectorTuples {
     ghost laws = { lists_equiv (Prim.search (comparing, rules)) };
 }
@@ -177,6 +184,27 @@ impl VectorTuples {
                 let lists = vector.lists();
                 (lists.index_at(at, hint), lists.value_at(at))
             }
+        }
+    }
+
+    /// Whether both are known to be one list: where both stand in one form, their lists are compared, each whole. Of equal lists that stand in
+    /// different forms it answers no. Takes no memory.
+    pub fn is_one(&self, other: &VectorTuples) -> bool
+        ensures { result ≡ true → self.now ≡ other.now }
+    {
+        match &self.source {
+            VectorSource::Listed(list) => match &other.source {
+                VectorSource::Listed(others) => are_vectors_listed(&list.tuples, &others.tuples),
+                VectorSource::Apart(_) | VectorSource::Stored(_) => false,
+            },
+            VectorSource::Apart(list) => match &other.source {
+                VectorSource::Apart(others) => list.is_same(others),
+                VectorSource::Listed(_) | VectorSource::Stored(_) => false,
+            },
+            VectorSource::Stored(vector) => match &other.source {
+                VectorSource::Stored(others) => vector.is_same(others),
+                VectorSource::Listed(_) | VectorSource::Apart(_) => false,
+            },
         }
     }
 
@@ -272,6 +300,13 @@ fn are_matrices_alike(a: &MatrixTuples, b: &MatrixTuples) -> bool
     true
 }
 
+/// Whether two lists have the same tuples, in one order.
+fn are_matrices_listed(a: &[(u64, u64, Value)], b: &[(u64, u64, Value)]) -> bool
+    ensures { result ≡ true → a.now ≡ b.now }
+{
+    a == b
+}
+
 /// A value with the row and the column of a cell.
 fn cell_tuple(cell: u64, value: Value) -> (u64, u64, Value)
     ensures { result ≡ (cell / 2 ^ 32, cell % 2 ^ 32, value) }
@@ -339,6 +374,27 @@ impl MatrixTuples {
                 let lists = matrix.lists();
                 cell_tuple(lists.index_at(at, hint), lists.value_at(at))
             }
+        }
+    }
+
+    /// Whether both are known to be one list: where both stand in one form, their lists are compared, each whole. Of equal lists that stand in
+    /// different forms it answers no. Takes no memory.
+    pub fn is_one(&self, other: &MatrixTuples) -> bool
+        ensures { result ≡ true → self.now ≡ other.now }
+    {
+        match &self.source {
+            MatrixSource::Listed(list) => match &other.source {
+                MatrixSource::Listed(others) => are_matrices_listed(&list.tuples, &others.tuples),
+                MatrixSource::Apart(_) | MatrixSource::Stored(_) => false,
+            },
+            MatrixSource::Apart(list) => match &other.source {
+                MatrixSource::Apart(others) => list.is_same(others),
+                MatrixSource::Listed(_) | MatrixSource::Stored(_) => false,
+            },
+            MatrixSource::Stored(matrix) => match &other.source {
+                MatrixSource::Stored(others) => matrix.is_same(others),
+                MatrixSource::Listed(_) | MatrixSource::Apart(_) => false,
+            },
         }
     }
 

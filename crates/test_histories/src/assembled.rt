@@ -9,6 +9,7 @@ ghost use Rattle.grb_states.specs.State.{is_assembled};
 
 use crate::editions::results_of;
 use crate::operations::{PLAIN, lent};
+use crate::results::learnt;
 use crate::same::same;
 use crate::stores::replayed;
 use crate::texts::text_of;
@@ -16,8 +17,8 @@ use crate::values::held_after;
 use grb_call::{Call, MatrixId, Object, VectorId};
 use grb_core::{BinaryOp, Domain, Monoid, Semiring, Value};
 use grb_ops::{mxv, reduce_matrix, reduce_vector};
-use grb_replay::Versions;
-use grb_results::Kept;
+use grb_replay::{Looked, Versions};
+use grb_results::Table;
 use grb_sparse::{SparseMatrix, SparseVector};
 use grb_states::State;
 use std::alloc::{AllocError, Global};
@@ -154,12 +155,14 @@ fn expect_state(
     }
 }
 
-/// The first of the results that is a matrix, and the first that is a vector.
-fn first_of(results: &[Kept]) -> (Option<&SparseMatrix>, Option<&SparseVector>) {
+/// The first of the results that a table keeps which is a matrix, and the first that is a vector.
+fn first_of(table: &Table) -> (Option<&SparseMatrix>, Option<&SparseVector>) {
     let (mut matrix, mut vector) = (None, None);
-    for kept in results {
-        matrix = matrix.or(kept.content.matrix());
-        vector = vector.or(kept.content.vector());
+    for at in 0..table.count() {
+        if let Some(content) = table.kept(at) {
+            matrix = matrix.or(content.matrix());
+            vector = vector.or(content.vector());
+        }
     }
     (matrix, vector)
 }
@@ -170,11 +173,11 @@ fn expect_edition(rt: &impl Abort, alloc: Global, calls: &[&Call]) -> Result<(),
     if calls.len() > 64 {
         panic!(rt; "{calls} calls", calls = calls.len());
     }
-    versions.offer(calls, results_of(alloc, calls)?)?;
-    let Some((_, results)) = versions.newest(calls) else {
-        panic!(rt; "no edition");
-    };
-    let (Some(a), Some(u)) = first_of(results) else {
+    versions.offer(calls, results_of(alloc, calls)?, &mut Looked::none())?;
+    let mut table = learnt(alloc, calls)?;
+    let length = versions.take_into(calls, &mut table, &mut Looked::none());
+    same(rt, length, calls.len(), "an edition of so many calls");
+    let (Some(a), Some(u)) = first_of(&table) else {
         panic!(rt; "no objects");
     };
     if !a.is_assembled() || !u.is_assembled() {

@@ -1,8 +1,8 @@
 //! Editions: which of them serve which calls, and which are kept.
 //!
-//! The contracts of `newest` and `take_into` say that what is found are results of the calls. That an edition is found where one serves,
-//! the longest that does, which offers and which of the results that are left are kept, whether they would be, that a table then has them,
-//! and that an edition which is not kept is no refusal, no contract says.
+//! The contract of `take_into` says that what is found are results of the calls. That an edition is found where one serves, the longest that
+//! does, which offers and which of the results that are left are kept, whether they would be, that a table then has them, that an edition
+//! which is not kept is no refusal, what a pass has looked at, and which editions are let go, no contract says.
 ghost use Rattle.std.specs.Prelude.{◌≤◌, length, map, IfOk};
 ghost use Rattle.grb_results.specs.Kept.{AreKept};
 
@@ -12,7 +12,7 @@ use crate::same::same;
 use grb_call::{Call, VectorId};
 use grb_core::{Domain, Value};
 use grb_objects::SharedContent;
-use grb_replay::Versions;
+use grb_replay::{Looked, Versions};
 use grb_results::{Kept, Table};
 use std::alloc::{AllocError, Global};
 use std::process::Abort;
@@ -69,28 +69,40 @@ pub(crate) fn results_of(alloc: Global, calls: &[&Call]) -> Result<Vec<Kept>, Al
     table.last_results()
 }
 
-/// Offers results of the calls, and the calls.
+/// A pass offers results of the calls, and the calls.
+fn offer_by(
+    rt: &impl Abort,
+    alloc: Global,
+    versions: &Versions,
+    history: History,
+    looked: &mut Looked,
+) -> Result<(), AllocError> {
+    let calls = calls_of(alloc, history)?;
+    let lent = lent(alloc, &calls)?;
+    if lent.len() > 4096 {
+        panic!(rt; "{calls} calls", calls = lent.len());
+    }
+    let results = results_of(alloc, &lent)?;
+    versions.offer(&lent, results, looked)
+}
+
+/// Another pass does.
 fn offer(
     rt: &impl Abort,
     alloc: Global,
     versions: &Versions,
     history: History,
 ) -> Result<(), AllocError> {
-    let calls = calls_of(alloc, history)?;
-    let lent = lent(alloc, &calls)?;
-    if lent.len() > 4096 {
-        panic!(rt; "{calls} calls", calls = lent.len());
-    }
-    let results = results_of(alloc, &lent)?;
-    versions.offer(&lent, results)
+    offer_by(rt, alloc, versions, history, &mut Looked::none())
 }
 
-/// Leaves results of the calls, and the calls.
-fn leave(
+/// A pass leaves results of the calls, and the calls.
+fn leave_by(
     rt: &impl Abort,
     alloc: Global,
     versions: &Versions,
     history: History,
+    looked: &mut Looked,
 ) -> Result<(), AllocError> {
     let calls = calls_of(alloc, history)?;
     let lent = lent(alloc, &calls)?;
@@ -98,7 +110,25 @@ fn leave(
         panic!(rt; "{calls} calls", calls = lent.len());
     }
     let results = results_of(alloc, &lent)?;
-    versions.leave(&lent, results)
+    versions.leave(&lent, results, looked)
+}
+
+/// Another pass does.
+fn leave(
+    rt: &impl Abort,
+    alloc: Global,
+    versions: &Versions,
+    history: History,
+) -> Result<(), AllocError> {
+    leave_by(rt, alloc, versions, history, &mut Looked::none())
+}
+
+/// Leaves results of more calls than `most`, so often that each of the latest has more.
+fn crowd(rt: &impl Abort, alloc: Global, versions: &Versions, most: u64) -> Result<(), AllocError> {
+    for more in 1..5 {
+        leave(rt, alloc, versions, Until(most.wrapping_add(more)))?;
+    }
+    Ok(())
 }
 
 /// What a vector stores at index 0, none where it stores nothing or is none.
@@ -107,22 +137,6 @@ fn stored(content: &SharedContent) -> Option<u64> {
         Some(Value::Uint64(n)) => Some(n),
         _ => None,
     }
-}
-
-/// How many calls the edition has that serves the calls, and what the vector stores by the latest of its results.
-fn found(versions: &Versions, calls: &[&Call]) -> Option<(usize, Option<u64>)> {
-    let (length, results) = versions.newest(calls)?;
-    let mut latest: Option<&Kept> = None;
-    for kept in results {
-        let is_later = match latest {
-            Some(before) => before.at < kept.at,
-            None => true,
-        };
-        if is_later {
-            latest = Some(kept);
-        }
-    }
-    Some((length, stored(&latest?.content)))
 }
 
 /// What the vector stores by the latest result that a table has of so many of its calls.
@@ -135,24 +149,39 @@ fn stored_before(table: &Table, count: usize) -> Option<u64> {
     None
 }
 
-/// Of how many calls an edition is from which a table takes results, and what the vector stores by the latest of them; none where it takes
-/// none. The calls are 512 at most.
-fn taken(
+/// Of how many calls an edition is from which a table takes results of these calls for a pass, and what the vector stores by the latest of
+/// them; none where it takes none.
+fn taken_by(
+    rt: &impl Abort,
     alloc: Global,
     versions: &Versions,
-    calls: &[&Call],
-) -> Result<Option<(usize, Option<u64>)>, AllocError>
-    requires { length calls.now ≤ 512 }
-{
-    let mut table = learnt(alloc, calls)?;
-    let length = versions.take_into(calls, &mut table, 0);
+    asked: History,
+    looked: &mut Looked,
+) -> Result<Option<(usize, Option<u64>)>, AllocError> {
+    let calls = calls_of(alloc, asked)?;
+    let lent = lent(alloc, &calls)?;
+    if lent.len() > 512 {
+        panic!(rt; "{calls} calls", calls = lent.len());
+    }
+    let mut table = learnt(alloc, &lent)?;
+    let length = versions.take_into(&lent, &mut table, looked);
     if length == 0 {
         return Ok(None);
     }
     Ok(Some((length, stored_before(&table, length))))
 }
 
-/// Editions of a room: those offered in turn, the calls that are asked for, and what is found for them.
+/// The same, for a pass that has looked at none.
+fn taken(
+    rt: &impl Abort,
+    alloc: Global,
+    versions: &Versions,
+    asked: History,
+) -> Result<Option<(usize, Option<u64>)>, AllocError> {
+    taken_by(rt, alloc, versions, asked, &mut Looked::none())
+}
+
+/// Editions of a room: those offered in turn, the calls that are asked for, and what is found for them, also where longer ones are the latest.
 #[derive(Clone, Copy)]
 struct Row {
     name: &'static str,
@@ -206,7 +235,7 @@ static ROWS: [Row; 13] = [
         found: None,
     },
     Row {
-        name: "a cell is set once",
+        name: "one that doubles none, with as many calls",
         room: 128,
         offered: &[These(&[0, 5]), These(&[0, 6])],
         asked: These(&[0, 6]),
@@ -261,13 +290,19 @@ fn expect_row(rt: &impl Abort, alloc: Global, row: &Row) -> Result<(), AllocErro
     for history in row.offered {
         offer(rt, alloc, &versions, *history)?;
     }
-    let calls = calls_of(alloc, row.asked)?;
-    let lent = lent(alloc, &calls)?;
-    same(rt, found(&versions, &lent), row.found, row.name);
-    if lent.len() > 512 {
-        panic!(rt; "{calls} calls", calls = lent.len());
-    }
-    same(rt, taken(alloc, &versions, &lent)?, row.found, row.name);
+    same(
+        rt,
+        taken(rt, alloc, &versions, row.asked)?,
+        row.found,
+        row.name,
+    );
+    crowd(rt, alloc, &versions, 66)?;
+    same(
+        rt,
+        taken(rt, alloc, &versions, row.asked)?,
+        row.found,
+        row.name,
+    );
     Ok(())
 }
 
@@ -279,9 +314,8 @@ fn an_edition_serves_the_calls_that_begin_with_its_own(rt: HostRuntime) -> Resul
     Ok(())
 }
 
-/// Editions of 64, 100, 128, 200 and 256 calls were offered in turn. Those of 64, 128 and 256 double, so cells have them; the others are
-/// among the latest. Here is how many calls are asked for, and how many the edition has that is found in a cell, and in any place; 0 is
-/// none.
+/// Editions of 64, 100, 128, 200 and 256 calls were offered in turn. Those of 64, 128 and 256 double; the others are among the latest. Here
+/// is how many calls are asked for, and how many the edition has that is found where longer ones are the latest, and before; 0 is none.
 static DOUBLED: [(u64, usize, usize); 10] = [
     (63, 0, 0),
     (64, 64, 64),
@@ -295,32 +329,38 @@ static DOUBLED: [(u64, usize, usize); 10] = [
     (256, 256, 256),
 ];
 
+/// How many calls the edition has that is found for so many.
+fn length_found(
+    rt: &impl Abort,
+    alloc: Global,
+    versions: &Versions,
+    asked: u64,
+) -> Result<usize, AllocError> {
+    match taken(rt, alloc, versions, Until(asked))? {
+        Some((length, _)) => Ok(length),
+        None => Ok(0),
+    }
+}
+
 #[test]
-fn editions_in_cells_double(rt: HostRuntime) -> Result<(), AllocError> {
+fn editions_double_beside_the_latest(rt: HostRuntime) -> Result<(), AllocError> {
     let versions = Versions::open(rt.alloc(), 512)?;
     for count in [64, 100, 128, 200, 256] {
         offer(&rt, rt.alloc(), &versions, Until(count))?;
     }
-    for (asked, in_cell, anywhere) in &DOUBLED {
-        let calls = calls_of(rt.alloc(), Until(*asked))?;
-        let lent = lent(rt.alloc(), &calls)?;
-        if lent.len() > 512 {
-            panic!(rt; "{calls} calls", calls = lent.len());
-        }
-        let cell = match found(&versions, &lent) {
-            Some((length, _)) => length,
-            None => 0,
-        };
-        let any = match taken(rt.alloc(), &versions, &lent)? {
-            Some((length, _)) => length,
-            None => 0,
-        };
-        same(&rt, (cell, any), (*in_cell, *anywhere), *asked);
+    for (asked, _, anywhere) in &DOUBLED {
+        let found = length_found(&rt, rt.alloc(), &versions, *asked)?;
+        same(&rt, found, *anywhere, *asked);
+    }
+    crowd(&rt, rt.alloc(), &versions, 256)?;
+    for (asked, doubled, _) in &DOUBLED {
+        let found = length_found(&rt, rt.alloc(), &versions, *asked)?;
+        same(&rt, found, *doubled, *asked);
     }
     Ok(())
 }
 
-/// 64, 128 and 256 calls in cells, and four numbers of calls in no cell.
+/// 64, 128 and 256 calls, which double, and four numbers of calls that do not.
 const CROWDED: &[History] = &[
     Until(64),
     Until(128),
@@ -471,21 +511,21 @@ static LATEST: [Latest; 15] = [
         found: None,
     },
     Latest {
-        name: "a longer one in a cell",
+        name: "a longer one by which lengths double",
         offered: &[THREE],
         left: &[TWO],
         asked: FIVE,
         found: Some((3, Some(2))),
     },
     Latest {
-        name: "a shorter one in a cell",
+        name: "a shorter one by which lengths double",
         offered: &[TWO],
         left: &[THREE],
         asked: FIVE,
         found: Some((3, Some(2))),
     },
     Latest {
-        name: "one in a cell, where the latest has other calls",
+        name: "one by which lengths double, where the latest has other calls",
         offered: &[TWO],
         left: &[These(&[0, 2, 8])],
         asked: FIVE,
@@ -501,12 +541,12 @@ fn expect_latest(rt: &impl Abort, alloc: Global, row: &Latest) -> Result<(), All
     for history in row.left {
         leave(rt, alloc, &versions, *history)?;
     }
-    let calls = calls_of(alloc, row.asked)?;
-    let lent = lent(alloc, &calls)?;
-    if lent.len() > 512 {
-        panic!(rt; "{calls} calls", calls = lent.len());
-    }
-    same(rt, taken(alloc, &versions, &lent)?, row.found, row.name);
+    same(
+        rt,
+        taken(rt, alloc, &versions, row.asked)?,
+        row.found,
+        row.name,
+    );
     Ok(())
 }
 
@@ -518,9 +558,9 @@ fn the_latest_are_four(rt: HostRuntime) -> Result<(), AllocError> {
     Ok(())
 }
 
-/// What was offered, and what was left; how many calls were seen and are known; and whether one of the latest, and any edition, has more
-/// than the ones and no more than the others.
-static BEYOND: [(&[History], &[History], usize, usize, bool, bool); 12] = [
+/// What was offered, and what was left; of how many calls at most a pass has looked at editions, and how many are known; and whether there is
+/// one of no more than the known that it has not looked at, among the latest alone, and in any place.
+static BEYOND: [(&[History], &[History], u64, usize, bool, bool); 12] = [
     (&[], &[], 0, 5, false, false),
     (&[TWO], &[], 0, 1, false, false),
     (&[TWO], &[], 0, 2, false, true),
@@ -545,11 +585,198 @@ fn an_edition_is_looked_for_by_numbers_of_calls(rt: HostRuntime) -> Result<(), A
         for history in *left {
             leave(&rt, rt.alloc(), &versions, *history)?;
         }
-        let found = (
-            versions.has_latest_beyond(*seen, *known),
-            versions.has_beyond(*seen, *known),
+        let mut looked = Looked::none();
+        if *seen > 0 {
+            for _ in 0..2 {
+                taken_by(&rt, rt.alloc(), &versions, Until(*seen), &mut looked)?;
+            }
+        }
+        let found = versions.has_new(&looked, *known);
+        crowd(&rt, rt.alloc(), &versions, 66)?;
+        let stays = versions.has_new(&looked, *known);
+        same(
+            &rt,
+            (found && !stays, found),
+            (*latest, *any),
+            ("row from 0", at),
         );
-        same(&rt, found, (*latest, *any), ("row from 0", at));
+    }
+    Ok(())
+}
+
+/// What a pass does with editions, or another: each of four calls at most.
+#[derive(Clone, Copy)]
+enum Does {
+    /// Another leaves results of these calls.
+    AnotherLeaves(History),
+    /// It leaves results of these calls itself.
+    Leaves(History),
+    /// It offers results of these calls itself.
+    Offers(History),
+    /// It takes results of these calls, from an edition of so many, or from none.
+    Takes(History, usize),
+    /// It lets all its results go.
+    Clears,
+}
+
+use Does::{AnotherLeaves, Clears, Leaves, Offers, Takes};
+
+/// What is done in turn, whether there is an edition of up to five calls then that the pass has not looked at, and how many calls were
+/// compared by then.
+static LOOKED: [(Does, bool, u64); 20] = [
+    (Takes(FIVE, 0), false, 0),
+    (AnotherLeaves(THREE), true, 0),
+    (Takes(TWO, 0), true, 0),
+    (Takes(FIVE, 3), false, 3),
+    (Takes(FIVE, 0), false, 3),
+    (AnotherLeaves(THREE), true, 3),
+    (Takes(FOUR, 3), false, 6),
+    (AnotherLeaves(These(&[0, 9, 3])), true, 6),
+    (Takes(FIVE, 0), false, 8),
+    (Takes(FIVE, 0), false, 8),
+    (Leaves(FOUR), false, 8),
+    (Takes(FOUR, 0), false, 8),
+    (Offers(TWO), false, 8),
+    (Takes(FOUR, 0), false, 8),
+    (AnotherLeaves(FOUR), true, 8),
+    (Takes(THREE, 0), true, 8),
+    (Takes(FIVE, 4), false, 12),
+    (Clears, true, 12),
+    (Takes(FIVE, 4), true, 16),
+    (Takes(FIVE, 2), false, 20),
+];
+
+/// Does one step of a pass.
+fn do_one(
+    rt: &impl Abort,
+    alloc: Global,
+    versions: &Versions,
+    does: Does,
+    looked: &mut Looked,
+) -> Result<(), AllocError> {
+    match does {
+        AnotherLeaves(history) => leave(rt, alloc, versions, history),
+        Leaves(history) => leave_by(rt, alloc, versions, history, looked),
+        Offers(history) => offer_by(rt, alloc, versions, history, looked),
+        Takes(history, wanted) => {
+            let length = match taken_by(rt, alloc, versions, history, looked)? {
+                Some((length, _)) => length,
+                None => 0,
+            };
+            same(rt, length, wanted, "an edition of so many calls");
+            Ok(())
+        }
+        Clears => {
+            looked.clear();
+            Ok(())
+        }
+    }
+}
+
+#[test]
+fn a_pass_compares_no_edition_twice_and_none_of_its_own(rt: HostRuntime) -> Result<(), AllocError> {
+    let versions = Versions::open(rt.alloc(), 128)?;
+    let mut looked = Looked::none();
+    for (at, (does, has_new, compared)) in LOOKED.iter().enumerate() {
+        do_one(&rt, rt.alloc(), &versions, *does, &mut looked)?;
+        let found = (versions.has_new(&looked, 5), looked.compared());
+        same(&rt, found, (*has_new, *compared), ("row from 0", at));
+    }
+    Ok(())
+}
+
+/// A vector with two entries, and one with one entry: five calls; and these calls after them.
+fn two_vectors(alloc: Global, after: &[After]) -> Result<Vec<Call>, AllocError> {
+    let mut calls = Vec::new(alloc);
+    for size in [2, 2] {
+        calls.push(Call::NewVector {
+            domain: Domain::Uint64,
+            size,
+        })?;
+    }
+    for (number, i) in [(0, 0), (0, 1), (1, 0)] {
+        calls.push(Call::SetVector {
+            v: VectorId(number),
+            i,
+            value: Value::Uint64(7),
+        })?;
+    }
+    for one in after {
+        calls.push(match *one {
+            After::Frees(number) => Call::FreeVector {
+                v: VectorId(number),
+            },
+            After::Clears(number) => Call::ClearVector {
+                v: VectorId(number),
+            },
+            After::Sets(number) => Call::SetVector {
+                v: VectorId(number),
+                i: 1,
+                value: Value::Uint64(9),
+            },
+        })?;
+    }
+    Ok(calls)
+}
+
+/// A call that comes after an edition, and the number of its vector.
+#[derive(Clone, Copy)]
+enum After {
+    Frees(u32),
+    Clears(u32),
+    Sets(u32),
+}
+
+use After::{Frees, Sets};
+
+/// What comes after the five calls, how many calls the table has learnt that is asked, and how many entries the edition has then of its three.
+static LET_GO: [(&[After], usize, u64); 9] = [
+    (&[], 5, 3),
+    (&[Sets(1)], 6, 3),
+    (&[Sets(0)], 6, 0),
+    (&[Frees(1)], 6, 3),
+    (&[Frees(0)], 6, 0),
+    (&[After::Clears(0)], 6, 0),
+    (&[Frees(0)], 5, 3),
+    (&[], 4, 3),
+    (&[], 0, 3),
+];
+
+/// Two passes keep results of the five calls: one by which lengths double, and one of the latest.
+fn keep_two_vectors(rt: &impl Abort, alloc: Global, versions: &Versions) -> Result<(), AllocError> {
+    let calls = two_vectors(alloc, &[])?;
+    let lent = lent(alloc, &calls)?;
+    if lent.len() > 4096 {
+        panic!(rt; "{calls} calls", calls = lent.len());
+    }
+    versions.offer(&lent, results_of(alloc, &lent)?, &mut Looked::none())?;
+    versions.leave(&lent, results_of(alloc, &lent)?, &mut Looked::none())
+}
+
+#[test]
+fn an_edition_lets_go_what_is_not_the_last_of_its_objects(
+    rt: HostRuntime,
+) -> Result<(), AllocError> {
+    for (at, (after, count, entries)) in LET_GO.iter().enumerate() {
+        let versions = Versions::open(rt.alloc(), 64)?;
+        keep_two_vectors(&rt, rt.alloc(), &versions)?;
+        same(&rt, versions.entries(), 6, "two editions");
+        let calls = two_vectors(rt.alloc(), after)?;
+        let lent = lent(rt.alloc(), &calls)?;
+        if lent.len() < *count || *count > 4096 {
+            panic!(rt; "{calls} calls", calls = lent.len());
+        }
+        let table = learnt(rt.alloc(), &lent[..*count])?;
+        versions.let_go(&table);
+        let found = (versions.entries(), versions.has_new(&Looked::none(), 5));
+        same(
+            &rt,
+            found,
+            (entries.wrapping_mul(2), *entries > 0),
+            ("row from 0", at),
+        );
+        keep_two_vectors(&rt, rt.alloc(), &versions)?;
+        same(&rt, versions.entries(), 6, ("and anew, row from 0", at));
     }
     Ok(())
 }

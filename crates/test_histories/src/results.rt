@@ -11,7 +11,7 @@ use grb_call::{Call, MatrixId, Object, VectorId, VectorTuples};
 use grb_core::{BinaryOp, Domain, Monoid, Value};
 use grb_objects::SharedContent;
 use grb_operations::Bench;
-use grb_replay::{LentCalls, Targets};
+use grb_replay::LentCalls;
 use grb_results::Table;
 use grb_states::State;
 use std::alloc::{AllocError, Global};
@@ -35,9 +35,8 @@ pub(crate) fn learnt(alloc: Global, calls: &[&Call]) -> Result<Table, AllocError
     requires { length calls.now < 2 ^ 31 }
     ensures { IfOk result (IsTableOf (map (λ c. c.now) calls.now)) }
 {
-    let mut table = Table::open(alloc, calls.len() as u32)?;
-    let mut walk = Targets::open(alloc, 0)?;
-    table.learn_all(&mut walk, &LentCalls { calls }, calls.len())?;
+    let mut table = Table::open(alloc);
+    table.learn_all(&mut (), &LentCalls { calls }, calls.len())?;
     Ok(table)
 }
 
@@ -54,11 +53,10 @@ pub(crate) fn result_of(
 {
     let mut bench = Bench::new(alloc);
     let mut stack = Vec::new(alloc);
-    let mut walk = Targets::open(alloc, 0)?;
     table.result_of(
         &mut bench,
         &mut stack,
-        &mut walk,
+        &mut (),
         &LentCalls { calls },
         object,
     )
@@ -72,8 +70,7 @@ pub(crate) fn settle(alloc: Global, table: &mut Table, calls: &[&Call]) -> Resul
 {
     let mut bench = Bench::new(alloc);
     let mut stack = Vec::new(alloc);
-    let mut walk = Targets::open(alloc, 0)?;
-    table.settle_all(&mut bench, &mut stack, &mut walk, &LentCalls { calls })
+    table.settle_all(&mut bench, &mut stack, &mut (), &LentCalls { calls })
 }
 
 /// A table that has learnt the calls, and begins with the store that they leave.
@@ -116,10 +113,8 @@ fn learn_next<'a>(
     call: &'a Call,
 ) -> Result<(), AllocError>
     requires table { IsTableOf (map (λ c. c.now) done.old.items) table.old }
-    requires room { 0 < table.old.learnt.shapes.room }
-    requires few { length done.old.items + table.old.learnt.shapes.room < 2 ^ 32 }
+    requires few { length done.old.items + 1 < 2 ^ 32 }
     ensures table { OnOk result (IsTableOf (map (λ c. c.now) done.new.items) table.new) }
-    ensures room { OnOk result (table.new.learnt.shapes.room + 1 ≡ table.old.learnt.shapes.room) }
     ensures done { OnOk result (length done.new.items ≡ length done.old.items + 1) }
 {
     table.learn(call)?;
@@ -158,11 +153,9 @@ fn take_step<'a>(
     counts: &mut Vec<(u32, u32)>,
 ) -> Result<(), AllocError>
     requires table { IsTableOf (map (λ c. c.now) done.old.items) table.old }
-    requires room { 0 < table.old.learnt.shapes.room }
-    requires few { length done.old.items + table.old.learnt.shapes.room < 2 ^ 32 }
+    requires few { length done.old.items + 1 < 2 ^ 32 }
     ensures table { OnOk result (IsTableOf (map (λ c. c.now) done.new.items) table.new) }
-    ensures room { OnOk result (table.old.learnt.shapes.room ≤ table.new.learnt.shapes.room + 1) }
-    ensures few { OnOk result (length done.new.items + table.new.learnt.shapes.room ≡ length done.old.items + table.old.learnt.shapes.room) }
+    ensures few { OnOk result (length done.new.items ≤ length done.old.items + 1) }
 {
     if let Step::Learn(call) = step {
         return learn_next(table, done, call);
@@ -177,7 +170,7 @@ fn counts_of(alloc: Global, steps: &[Step]) -> Result<Vec<(u32, u32)>, AllocErro
     requires { length steps.now < 2 ^ 31 }
 {
     let mut done = Vec::with_capacity(alloc, steps.len())?;
-    let mut table = Table::open(alloc, steps.len() as u32)?;
+    let mut table = Table::open(alloc);
     let mut counts = Vec::new(alloc);
     'steps: for at in 0..steps.len() {
         take_step(alloc, &mut table, &mut done, &steps[at], &mut counts)?;

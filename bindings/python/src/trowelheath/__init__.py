@@ -38,7 +38,7 @@ from .errors import (
 )
 from .objects import Matrix, Object, Transposed, Vector
 from .operators import MONOIDS, OPERATORS, TESTS, UNARY_OPERATORS
-from .store import MOST_PASSES, MOST_ROOM, MOST_SEATS, Facts, Pass, Store, Temporary
+from .store import MOST_PASSES, MOST_ROOM, MOST_SEATS, Costs, Facts, Pass, Store, Temporary
 
 __version__ = "1.0.0"
 
@@ -50,6 +50,7 @@ __all__ = [
     "OPERATORS",
     "TESTS",
     "UNARY_OPERATORS",
+    "Costs",
     "DimensionMismatch",
     "DomainMismatch",
     "Facts",

@@ -38,9 +38,20 @@ class FactsRecord(ctypes.Structure):
     ]
 
 
+class CostsRecord(ctypes.Structure):
+    """What a pass keeps and has looked at (`TrB_Costs`)."""
+
+    _fields_ = [
+        ("entries", ctypes.c_uint64),
+        ("entries_left", ctypes.c_uint64),
+        ("looks", ctypes.c_uint64),
+    ]
+
+
 # The address of a handle: a number is passed faster than a pointer with a type.
 _PASS = ctypes.c_void_p
 _FACTS = ctypes.POINTER(FactsRecord)
+_COSTS = ctypes.POINTER(CostsRecord)
 _BOOL = ctypes.c_bool
 _U32 = ctypes.c_uint32
 _U64 = ctypes.c_uint64
@@ -71,6 +82,7 @@ _PARAMETERS: Dict[str, Tuple[Any, ...]] = {
     "trb_blocks": (_PASS, _U64_OUT),
     "trb_release": (_PASS,),
     "trb_facts": (_PASS, _FACTS),
+    "trb_costs": (_PASS, _COSTS),
     "trb_matrix_last_info": (_PASS, _I32_OUT, _U32),
     "trb_vector_last_info": (_PASS, _I32_OUT, _U32),
     # Objects.

@@ -15,13 +15,13 @@ from typing import Any, Callable, Dict, Iterable, List, NamedTuple, NoReturn, Op
 from . import _tell, convert
 from ._helper import Task, can_wait, forget_helpers, wait_for
 from ._helping import Helping
-from ._library import FactsRecord, PassHandle, load
+from ._library import CostsRecord, FactsRecord, PassHandle, load
 from ._life import LetGo, Life
 from .errors import Info, InsufficientSpace, InvalidValue, Refusal, RoomTooSmall, StoreClosed, refusal_of
 from .objects import AnyObject, Matrix, Object, Vector
 from .operators import BOOL, UINT64, Domain, domain_of
 
-__all__ = ["MOST_PASSES", "MOST_ROOM", "MOST_SEATS", "Facts", "Pass", "Store", "Temporary"]
+__all__ = ["MOST_PASSES", "MOST_ROOM", "MOST_SEATS", "Costs", "Facts", "Pass", "Store", "Temporary"]
 
 MOST_ROOM = 65_536
 """The largest room of a store, in calls."""
@@ -241,6 +241,17 @@ class Facts(NamedTuple):
     """How many atomic steps its last call made on the order."""
     made: int
     """How many calls of the history its last call evaluated to answer."""
+
+
+class Costs(NamedTuple):
+    """What a pass keeps and has looked at: counts for who watches what a store costs."""
+
+    entries: int
+    """How many entries the results have that it keeps; what it shares with others counts with each."""
+    entries_left: int
+    """How many entries the results have that the passes of its store left to one another."""
+    looks: int
+    """How many objects, results and calls it has looked at so far without that one of them was made."""
 
 
 class Pass:
@@ -480,6 +491,16 @@ class Pass:
         record = FactsRecord()
         self._call("trb_facts", ctypes.byref(record))
         return Facts(*(getattr(record, name) for name in Facts._fields))
+
+    def costs(self) -> Costs:
+        """What the pass keeps and has looked at. It looks for no news.
+
+        Raises:
+            StoreClosed: the store is closed.
+        """
+        record = CostsRecord()
+        self._call("trb_costs", ctypes.byref(record))
+        return Costs(*(getattr(record, name) for name in Costs._fields))
 
     def is_full(self) -> bool:
         """Whether the room is used up and the pass knows every change.

@@ -179,7 +179,7 @@ impl<O: Helps> Evaluated<O> {
         ensures table { IsTable (calls_of (known reader.new)) self.new }
         ensures learnt { self.new.learnt ≡ self.old.learnt }
         ensures ready { OnOk result (AreReady self.new) }
-        ensures stays { AreReady self.old → self.new ≡ self.old }
+        ensures stays { AreReady self.old → (self.new.results ≡ self.old.results) × IsSameBut self.old self.new }
         ensures memory { OnErr result (AreReady self.old → ⊥) }
     {
         if self.table.are_ready() {

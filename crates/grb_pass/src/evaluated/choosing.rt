@@ -1,5 +1,5 @@
 //! Some objects, evaluated for who goes on with them, and nothing else.
-ghost use Rattle.std.specs.Prelude.{◌≡◌, ◌<◌, ◌≤◌, ◌+◌, ◌*◌, ◌^◌, false, true, [], length, map, All, Contains, IfOk, IfErr, IfSome, IfNone, OnErr, OnOk};
+ghost use Rattle.std.specs.Prelude.{◌≡◌, ◌<◌, ◌≤◌, ◌+◌, ◌*◌, ◌^◌, false, true, [], Ok, length, map, All, Contains, IfOk, IfErr, IfSome, IfNone, OnErr, OnOk};
 ghost use Rattle.std.specs.Option.{option_map, option_map_or};
 ghost use Rattle.grb_order.specs.declared.limits.TheConstants.{MOST_PASSES, MOST_PLACES, MOST_ROOM, MOST_WORDS};
 ghost use Rattle.grb_records.specs.Token.{IsOf};
@@ -11,7 +11,7 @@ ghost use Rattle.grb_results.specs.Exchanged.{OfEach};
 ghost use Rattle.grb_results.specs.Kept.{IsReady, IsReadyIfThere, IsTableOf};
 ghost use Rattle.grb_rebuild.specs.Rebuilding.{IsRebuild};
 ghost use Rattle.grb_pass.specs.Chosen.{IsNoSuccessor, MayHaveRoom, NamesChosen, chosen_store, room_beside};
-ghost use Rattle.grb_pass.specs.Evaluated.{IsAssembled, IsEvaluatedFor};
+ghost use Rattle.grb_pass.specs.Evaluated.{IsAssembled, IsEvaluatedFor, LiesReadyAfter};
 ghost use Rattle.grb_pass.specs.Making.{IsForMemory, IsNotBegun};
 ghost use Rattle.grb_reader.specs.Known.{known};
 
@@ -83,12 +83,56 @@ impl<O: Helps> Evaluated<O> {
         ensures evaluated { IsEvaluatedFor reader.new self.new }
         ensures table { IsTableOf (calls_of (known reader.new)) self.new }
         ensures ready { OnOk result (IsReadyIfThere self.new object) }
+        ensures memory { OnErr result (IsReady self.old object → ⊥) }
     {
         if self.table.is_ready(object) {
             return Ok(());
         }
         self.make_and_share(records, reader, object)?;
         self.table.assemble_last(object)
+    }
+
+    /// Makes what the object holds after all known calls, if it is there, and has the changes done that wait in it, as
+    /// [`Evaluated::make_one_ready`] does; whether it is there.
+    pub(crate) fn evaluate(
+        &mut self,
+        records: &Records,
+        reader: &mut Reader,
+        object: Object,
+    ) -> Result<bool, AllocError>
+        requires evaluated { IsEvaluatedFor reader.old self.old }
+        requires of { All (IsOf records.now) reader.old.shown }
+        ensures same { reader.new ≡ reader.old }
+        ensures evaluated { IsEvaluatedFor reader.new self.new }
+        ensures there { IfOk result (λ there. there ≡ is_live (shapes_of (store_of (known reader.old))) object) }
+        ensures ready { result ≡ Ok true → LiesReadyAfter self.new object (length (known reader.old)) }
+        ensures memory { OnErr result (reader.old.settled < length (known reader.old)) }
+    {
+        self.learn(records, reader)?;
+        if !self.table.is_there(object) {
+            return Ok(false);
+        }
+        self.make_one_ready(records, reader, object)?;
+        Ok(true)
+    }
+
+    /// How much work it is, about, to make what the object holds after all known calls. Where memory is refused, none is known.
+    pub(crate) fn work_left(
+        &mut self,
+        records: &Records,
+        reader: &mut Reader,
+        object: Object,
+    ) -> u64
+        requires evaluated { IsEvaluatedFor reader.old self.old }
+        requires of { All (IsOf records.now) reader.old.shown }
+        ensures same { reader.new ≡ reader.old }
+        ensures evaluated { IsEvaluatedFor reader.new self.new }
+        ensures made { self.new.made ≡ self.old.made }
+    {
+        match self.learn(records, reader) {
+            Ok(()) => self.table.work_for(reader, records, object),
+            Err(_refused) => 0,
+        }
     }
 
     /// The matrix as it is after all known calls, which were learnt, for one more holder, if it is there. No entry is copied. `AllocError` where

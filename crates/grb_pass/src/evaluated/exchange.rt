@@ -40,35 +40,27 @@ fn lent_calls<'a>(records: &'a Records, reader: &mut Reader) -> Result<Vec<&'a C
 }
 
 impl<O: Helps> Evaluated<O> {
-    /// Keeps also the results of the longest edition found of more than so many of the known calls. Nothing is missed where memory is refused.
-    fn take_edition(&mut self, records: &Records, reader: &mut Reader, seen: usize)
+    /// Keeps also the results of the longest edition found that was not looked at, where so much work is worth to compare calls. Nothing is
+    /// missed where memory is refused.
+    fn look_where_worth(&mut self, records: &Records, reader: &mut Reader, work: u64)
         requires of { All (IsOf records.now) reader.old.shown }
-        requires table { IsTable (calls_of (known reader.old)) self.old }
+        requires table { IsTableOf (calls_of (known reader.old)) self.old }
         ensures same { reader.new ≡ reader.old }
-        ensures table { IsTable (calls_of (known reader.new)) self.new }
+        ensures table { IsTableOf (calls_of (known reader.new)) self.new }
         ensures learnt { IsSameBut self.old self.new }
         ensures stays { KeepsAll self.old self.new }
     {
-        if let Ok(calls) = lent_calls(records, reader) {
-            let found = self
-                .versions
-                .take_into(calls.as_slice(), &mut self.table, seen);
-            self.seen = found.max(self.seen);
-        }
-    }
-
-    /// The fewest calls that an edition may have which is worth to be looked at: more than those looked at, and one of all known calls again.
-    fn looked(&self, reader: &Reader) -> usize {
-        self.seen.min((reader.known() as usize).saturating_sub(1))
-    }
-
-    /// Whether there is an edition to look at, and so much work is worth to compare calls.
-    fn is_worth_looking(&self, reader: &Reader, work: u64) -> bool {
         let known = reader.known();
-        work / COMPARED >= u64::from(known)
-            && self
+        if work / COMPARED < u64::from(known)
+            || !self.versions.has_new(&self.looked, known as usize)
+        {
+            return;
+        }
+        if let Ok(calls) = lent_calls(records, reader) {
+            let _found = self
                 .versions
-                .has_beyond(self.looked(reader), known as usize)
+                .take_into(calls.as_slice(), &mut self.table, &mut self.looked);
+        }
     }
 
     /// Keeps also results that another pass left, before what the object needs is made, where that takes more than to compare calls.
@@ -81,10 +73,7 @@ impl<O: Helps> Evaluated<O> {
         ensures stays { KeepsAll self.old self.new }
     {
         let work = self.table.work_for(reader, records, object);
-        if self.is_worth_looking(reader, work) {
-            let seen = self.looked(reader);
-            self.take_edition(records, reader, seen);
-        }
+        self.look_where_worth(records, reader, work);
     }
 
     /// Keeps also results that another pass left, before what all objects need is made, where that takes more than to compare calls.
@@ -97,10 +86,7 @@ impl<O: Helps> Evaluated<O> {
         ensures stays { KeepsAll self.old self.new }
     {
         let work = self.table.work_for_all(reader, records);
-        if self.is_worth_looking(reader, work) {
-            let seen = self.looked(reader);
-            self.take_edition(records, reader, seen);
-        }
+        self.look_where_worth(records, reader, work);
     }
 
     /// Leaves the last results, as far as they lie ready, to the other passes. `AllocError` where memory is refused; then none is left.
@@ -113,7 +99,8 @@ impl<O: Helps> Evaluated<O> {
         self.left = self.table.work();
         let calls = lent_calls(records, reader)?;
         let results = self.table.last_results()?;
-        self.versions.leave(calls.as_slice(), results)
+        self.versions
+            .leave(calls.as_slice(), results, &mut self.looked)
     }
 
     /// Whether what was made for the answer is dear, also next to copies of the calls, and there are other passes.
@@ -147,7 +134,8 @@ impl<O: Helps> Evaluated<O> {
         }
         let calls = lent_calls(records, reader)?;
         let results = self.table.last_results()?;
-        self.versions.offer(calls.as_slice(), results)?;
+        self.versions
+            .offer(calls.as_slice(), results, &mut self.looked)?;
         self.left = self.table.work();
         Ok(())
     }

@@ -3,10 +3,9 @@
 ghost use Rattle.std.specs.Prelude.{◌≡◌, ◌+◌, ◌<◌, ◌≤◌, ◌^◌, length, All, IfOk, IfErr};
 ghost use Rattle.grb_order.specs.declared.limits.TheConstants.{MOST_PASSES, MOST_ROOM};
 ghost use Rattle.grb_records.specs.Token.{IsOf};
-ghost use Rattle.grb_call.specs.History.{store_of};
-ghost use Rattle.grb_states.specs.Live.{live_store};
+ghost use Rattle.grb_call.specs.History.{calls_of, store_of};
 ghost use Rattle.grb_rebuild.specs.Rebuilding.{IsRebuild};
-ghost use Rattle.grb_rebuild.specs.Renumbered.{AreRenumbered};
+ghost use Rattle.grb_results.specs.Kept.{IsTableOf};
 ghost use Rattle.grb_pass.specs.Chosen.{IsNoSuccessor, MayHaveRoom, NamesLive, room_beside};
 ghost use Rattle.grb_pass.specs.Evaluated.{IsAssembled, IsEvaluatedFor};
 ghost use Rattle.grb_pass.specs.Making.{IsForMemory};
@@ -19,7 +18,7 @@ use super::exchange::DEAR;
 use grb_call::{MatrixId, VectorId};
 use grb_objects::Helps;
 use grb_reader::Reader;
-use grb_rebuild::{NoSuccessor, Rebuild, Renumbered, live_state};
+use grb_rebuild::{NoSuccessor, Rebuild};
 use grb_records::Records;
 use grb_states::State;
 use std::alloc::{AllocError, Global};
@@ -103,36 +102,6 @@ impl<O: Helps> Evaluated<O> {
         rebuild_beside(alloc, &state, room, passes)
     }
 
-    /// The same of the objects that are there alone, and which number each has then.
-    pub(crate) fn rebuild_live(
-        &mut self,
-        alloc: Global,
-        records: &Records,
-        reader: &mut Reader,
-        room: u32,
-        passes: u32,
-    ) -> Result<(Rebuild, Renumbered), NoSuccessor>
-        requires evaluated { IsEvaluatedFor reader.old self.old }
-        requires of { All (IsOf records.now) reader.old.shown }
-        requires room { room ≤ MOST_ROOM }
-        requires passes { (0 < passes) × (passes ≤ MOST_PASSES) }
-        ensures same { reader.new ≡ reader.old }
-        ensures evaluated { IsEvaluatedFor reader.new self.new }
-        ensures rebuild { IfOk result (λ r. IsRebuild (room_beside r.0.state.store room) r.0.calls.items r.0.state) }
-        ensures fits { IfOk result (λ r. MayHaveRoom (room_beside r.0.state.store room) passes) }
-        ensures store { IfOk result (λ r. r.0.state.store ≡ live_store (store_of (known reader.old))) }
-        ensures numbers { IfOk result (λ r. AreRenumbered (store_of (known reader.old)) r.1) }
-        ensures refused { IfErr result (IsNoSuccessor room passes (live_store (store_of (known reader.old)))) }
-        ensures named { IfErr result (NamesLive (store_of (known reader.old))) }
-    {
-        let state = self.whole(alloc, records, reader)?;
-        let Ok((live, numbers)) = live_state(alloc, &state) else {
-            return Err(NoSuccessor::OutOfMemory);
-        };
-        let rebuild = rebuild_beside(alloc, &live, room, passes)?;
-        Ok((rebuild, numbers))
-    }
-
     /// Takes this store, which the known calls leave, for what was evaluated. Where memory is refused, an answer makes what it needs.
     pub(crate) fn begin_with(&mut self, records: &Records, reader: &mut Reader, state: &State)
         requires evaluated { IsEvaluatedFor reader.old self.old }
@@ -147,6 +116,20 @@ impl<O: Helps> Evaluated<O> {
         }
     }
 
+    /// Makes what the objects hold that are there after all known calls, which were learnt, where that is dear. Where memory is refused, fewer.
+    fn make_where_dear(&mut self, records: &Records, reader: &mut Reader)
+        requires evaluated { IsEvaluatedFor reader.old self.old }
+        requires of { All (IsOf records.now) reader.old.shown }
+        requires table { IsTableOf (calls_of (known reader.old)) self.old }
+        ensures same { reader.new ≡ reader.old }
+        ensures evaluated { IsEvaluatedFor reader.new self.new }
+    {
+        if self.table.work_for_all(reader, records) < DEAR {
+            return;
+        }
+        let _ = self.make_ready(records, reader);
+    }
+
     /// Makes what the objects hold that are there after all known calls, where that is dear, so that others can go on from there; how many of
     /// the known calls no answer makes any more before another one. Where memory is refused, fewer.
     pub(crate) fn prepare(&mut self, records: &Records, reader: &mut Reader) -> u32
@@ -159,9 +142,7 @@ impl<O: Helps> Evaluated<O> {
         if self.learn(records, reader).is_err() {
             return 0;
         }
-        if self.table.work_for_all(reader, records) >= DEAR {
-            let _ = self.make_ready(records, reader);
-        }
+        self.make_where_dear(records, reader);
         self.table.evaluated().min(reader.known())
     }
 }

@@ -1,6 +1,6 @@
-//! A store goes on without the numbers of freed objects: the others keep their order, and what is told of their numbers is right. So does a
-//! branch of all objects that a pass says are there. Contracts say which store a successor begins with; none says that there is one where
-//! memory and room are at hand, or that a store and its successor, which share what they hold, keep it apart.
+//! A store goes on without the numbers of freed objects, as a branch of all objects that a pass says are there: they keep their order, and
+//! what is told of their numbers is right. Contracts say which store a branch begins with; none says that there is one where memory and room
+//! are at hand, or that a store and its branch, which share what they hold, keep it apart.
 ghost use Rattle.std.specs.Prelude.{◌<◌, ◌≤◌, ◌^◌, length};
 ghost use Rattle.grb_context.specs.Known.{IsPassOf};
 
@@ -14,7 +14,7 @@ use crate::tests::steps::{ROOM, Step, expect_of_next, expect_steps};
 use crate::tests::stores::open;
 use grb_call::Reply::{Count, Dims, MadeMatrix, MadeVector, Size};
 use grb_call::{MatrixId, VectorId};
-use grb_context::{Context, LiveObjects, Pass, Renumbered};
+use grb_context::{Context, LiveObjects, Pass};
 use grb_core::Value::{Bool, Uint64};
 use grb_core::{Domain, Monoid, Refusal};
 use std::alloc::Global;
@@ -57,17 +57,6 @@ static BEFORE: [Step; 15] = [
     Does(FreeVector(V2)),
 ];
 
-/// The number that each old matrix has in the successor; the last one was never made.
-static MATRICES: [(u32, Option<u32>); 4] = [(0, Some(0)), (1, None), (2, Some(1)), (3, None)];
-
-static VECTORS: [(u32, Option<u32>); 5] = [
-    (0, None),
-    (1, Some(0)),
-    (2, None),
-    (3, Some(1)),
-    (4, None),
-];
-
 static RENUMBERED: [Step; 18] = [
     Knows(7),
     Finds(GetMatrix(A0, 0, 1), Uint64(5)),
@@ -102,72 +91,47 @@ static AFTER: [Step; 10] = [
     Asks(NewVector(Domain::Bool, 1), Ok(MadeVector(V4))),
 ];
 
-/// What is told of the new numbers is right.
-fn expect_numbers<R: Abort>(rt: &R, numbers: &Renumbered) {
-    for (number, wanted) in &MATRICES {
-        let old = MatrixId(*number);
-        same(rt, numbers.matrix(old), wanted.map(MatrixId), old);
-    }
-    for (number, wanted) in &VECTORS {
-        let old = VectorId(*number);
-        same(rt, numbers.vector(old), wanted.map(VectorId), old);
-    }
+/// What the pass says is there is this, of so many numbers of each sort.
+fn expect_live<R: Abort>(
+    rt: &R,
+    live: &LiveObjects,
+    matrices: &[MatrixId],
+    vectors: &[VectorId],
+    counts: (u32, u32),
+) {
+    same(rt, live.matrices.as_slice(), matrices, "the matrices");
+    same(rt, live.vectors.as_slice(), vectors, "the vectors");
+    let told = (live.matrix_count, live.vector_count);
+    same(rt, told, counts, "the numbers");
 }
 
-fn go_on<R: Abort>(rt: &R, alloc: Global, context: &Context, pass: &mut Pass)
-    requires { IsPassOf context.now pass.old }
-    ensures { IsPassOf context.now pass.new }
-{
-    match context.succeed_live(alloc, pass, ROOM, 1) {
-        Ok((next, mut passes, numbers)) => {
-            expect_numbers(rt, &numbers);
-            expect_of_next(rt, alloc, &next, &mut passes, &RENUMBERED);
-        }
-        Err(none) => panic!(rt; "no successor: {none:?}"),
-    }
-}
-
-/// What the pass says is there is right.
-fn expect_live<R: Abort>(rt: &R, live: &LiveObjects) {
-    same(rt, live.matrices.as_slice(), &[A0, A2], "the matrices");
-    same(rt, live.vectors.as_slice(), &[V1, V3], "the vectors");
-    let counts = (live.matrix_count, live.vector_count);
-    same(rt, counts, (3, 4), "the numbers");
-}
-
-/// A branch of these is as the successor without freed numbers.
-fn part<R: Abort>(
+/// The pass tells that these objects are there, and a branch of them with room for so many more calls does the steps.
+fn go_on_with<R: Abort>(
     rt: &R,
     alloc: Global,
     context: &Context,
     pass: &mut Pass,
     matrices: &[MatrixId],
     vectors: &[VectorId],
+    counts: (u32, u32),
+    room: u32,
+    steps: &[Step],
 )
     requires pass { IsPassOf context.now pass.old }
     requires matrices { length matrices.now < 2 ^ 32 }
     requires vectors { length vectors.now < 2 ^ 32 }
-    ensures { IsPassOf context.now pass.new }
-{
-    match context.branch(alloc, pass, matrices, vectors, ROOM, 1) {
-        Ok((next, mut passes)) => {
-            expect_of_next(rt, alloc, &next, &mut passes, &RENUMBERED);
-        }
-        Err(none) => panic!(rt; "no branch: {none:?}"),
-    }
-}
-
-/// The pass tells what is there, and makes a branch of it.
-fn part_of_live<R: Abort>(rt: &R, alloc: Global, context: &Context, pass: &mut Pass)
-    requires { IsPassOf context.now pass.old }
+    requires room { (0 < room) × (room ≤ 64) }
     ensures { IsPassOf context.now pass.new }
 {
     match pass.live(alloc) {
-        Ok(live) => {
-            expect_live(rt, &live);
-            part(rt, alloc, context, pass, &[A0, A2], &[V1, V3]);
-        }
+        Ok(live) => expect_live(rt, &live, matrices, vectors, counts),
         Err(_) => panic!(rt; "no memory for the numbers"),
+    }
+    match context.branch(alloc, pass, matrices, vectors, room, 1) {
+        Ok((next, mut passes)) => {
+            expect_of_next(rt, alloc, &next, &mut passes, steps);
+        }
+        Err(none) => panic!(rt; "no branch: {none:?}"),
     }
 }
 
@@ -175,8 +139,18 @@ fn tell<R: Abort>(rt: &R, alloc: Global, context: &Context, pass: &mut Pass)
     requires { IsPassOf context.now pass.old }
 {
     expect_steps(rt, alloc, context, pass, &BEFORE, 0);
-    part_of_live(rt, alloc, context, pass);
-    go_on(rt, alloc, context, pass);
+    let counts = (3, 4);
+    go_on_with(
+        rt,
+        alloc,
+        context,
+        pass,
+        &[A0, A2],
+        &[V1, V3],
+        counts,
+        ROOM,
+        &RENUMBERED,
+    );
     expect_steps(rt, alloc, context, pass, &AFTER, 0);
 }
 
@@ -184,27 +158,6 @@ fn tell<R: Abort>(rt: &R, alloc: Global, context: &Context, pass: &mut Pass)
 fn objects_that_are_there_get_the_next_numbers(rt: HostRuntime) {
     let mut store = open(&rt, rt.alloc(), ROOM);
     tell(&rt, rt.alloc(), &store.context, &mut store.p);
-}
-
-/// A successor with room for so many more calls does the steps.
-fn go_on_with<R: Abort>(
-    rt: &R,
-    alloc: Global,
-    context: &Context,
-    pass: &mut Pass,
-    room: u32,
-    steps: &[Step],
-)
-    requires pass { IsPassOf context.now pass.old }
-    requires room { (0 < room) × (room ≤ 64) }
-    ensures { IsPassOf context.now pass.new }
-{
-    match context.succeed_live(alloc, pass, room, 1) {
-        Ok((next, mut passes, _numbers)) => {
-            expect_of_next(rt, alloc, &next, &mut passes, steps);
-        }
-        Err(none) => panic!(rt; "no successor: {none:?}"),
-    }
 }
 
 /// Nothing is left of what a store of eight calls had.
@@ -235,7 +188,7 @@ fn tell_of_a_full_one<R: Abort>(rt: &R, alloc: Global, context: &Context, pass: 
     requires { IsPassOf context.now pass.old }
 {
     expect_steps(rt, alloc, context, pass, &FREED, 0);
-    go_on_with(rt, alloc, context, pass, 3, &EMPTY);
+    go_on_with(rt, alloc, context, pass, &[], &[], (0, 4), 3, &EMPTY);
 }
 
 #[test]
@@ -257,7 +210,7 @@ static MADE: [Step; 7] = [
     Asks(NewVector(Domain::Bool, 6), Ok(MadeVector(V1))),
 ];
 
-/// A successor with room for one call. The vector that is there has the number of the freed one.
+/// A branch with room for one call. The vector that is there has the number of the freed one.
 static JUST: [Step; 7] = [
     Knows(NEEDED),
     IsAtEnd(false),
@@ -277,7 +230,7 @@ static KEPT: [Step; 6] = [
     Knows(8),
 ];
 
-/// A successor that so many passes share takes as many calls as a store may, next to those that make its objects.
+/// A branch that so many passes share takes as many calls as a store may, next to those that make its objects.
 fn expect_room<R: Abort>(
     rt: &R,
     alloc: Global,
@@ -291,8 +244,8 @@ fn expect_room<R: Abort>(
     requires passes { (0 < passes) × (passes ≤ 256) }
     ensures { IsPassOf context.now pass.new }
 {
-    let left = match context.succeed_live(alloc, pass, room, passes) {
-        Ok((_next, opened, _numbers)) => match opened.first() {
+    let left = match context.branch(alloc, pass, &[A0], &[V1], room, passes) {
+        Ok((_next, opened)) => match opened.first() {
             Some(first) => Some(first.room_left()),
             None => None,
         },
@@ -307,13 +260,13 @@ fn tell_of_rooms<R: Abort>(rt: &R, alloc: Global, context: &Context, pass: &mut 
     expect_steps(rt, alloc, context, pass, &MADE, 0);
     expect_room(rt, alloc, context, pass, 65_536, 1);
     expect_room(rt, alloc, context, pass, 4_096, 256);
-    go_on_with(rt, alloc, context, pass, 1, &JUST);
+    go_on_with(rt, alloc, context, pass, &[A0], &[V1], (1, 2), 1, &JUST);
     expect_steps(rt, alloc, context, pass, &KEPT, 0);
 }
 
-/// What makes the objects of a successor does not count against its room.
+/// What makes the objects of a branch does not count against its room.
 #[test]
-fn a_successor_without_freed_numbers_has_all_the_room_that_a_store_may(rt: HostRuntime) {
+fn a_branch_without_freed_numbers_has_all_the_room_that_a_store_may(rt: HostRuntime) {
     let mut store = open(&rt, rt.alloc(), ROOM);
     tell_of_rooms(&rt, rt.alloc(), &store.context, &mut store.p);
 }

@@ -1,7 +1,6 @@
-use Rattle.std.proofs.Common.{◌≡◌, List, length, map, take, ap, sym, subst, ◌∙◌, arith}
+use Rattle.std.proofs.Common.{◌≡◌, List, length, map, take, ap, sym, ◌∙◌, arith}
 use Rattle.std.proofs.lemmas.List.{length-map, take_all}
 use Rattle.grb_call.specs.declared.call.Call.{Call}
-use Rattle.grb_results.specs.Kept.{AreKept}
 use Rattle.grb_editions.proofs.Begins.{begin_next, lent_call}
 use Rattle.grb_editions.proofs.Taken.{kept_on}
 use Rattle.grb_editions.proofs.edition.begin_with.Goals as goal
@@ -23,10 +22,3 @@ returns-clause-kept c is =
     let all : length first ≡ c.calls.at = omega (arith, c.calls-test.false, c.calls.auto.at-end) in
     let same : take (length first) calls ≡ first = ap (λ n. take n calls) all ∙ (c.calls.invariant.same ∙ take_all c.calls.at first (omega (arith, all))) in
     kept_on calls first same (omega (arith, c.calls.invariant.fits, length-map c.args.calls.now (λ a. a.now)))
-
-pub returns-clause-first : goal.returns-clause-first
-returns-clause-first c is results kept =
-    let calls : List Call = map (λ a. a.now) c.args.calls.now in let first : List Call = c.args.first.now in
-    let all : length first ≡ c.calls.at = omega (arith, c.calls-test.false, c.calls.auto.at-end) in
-    let same : take (length first) calls ≡ first = ap (λ n. take n calls) all ∙ (c.calls.invariant.same ∙ take_all c.calls.at first (omega (arith, all))) in
-    subst (λ (cs : List Call). AreKept cs results) (sym same) kept

@@ -15,5 +15,5 @@ product-requires-2-clause-mask_in_range c =
 
 pub returns-clause-matrix : goal.returns-clause-matrix
 returns-clause-matrix c =
-    c.in_ok-made.ensures.matrix
+    c.in_ok-alone.ensures.matrix
     ∙ same_matrix _ _ _ _ _ _ _ _ refl refl refl (ap (λ (m : Option MatrixEntries). selected_product c.args.semiring c.args.structure m c.args.a.now.matrix.entries c.args.b.now.matrix.entries) c.bounding_lists-bound.ensures.entries)

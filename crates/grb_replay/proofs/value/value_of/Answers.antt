@@ -12,7 +12,7 @@ use Rattle.grb_states.specs.State.{RoomyStore}
 use Rattle.grb_replay.specs.Wanted.{is_wanted}
 use Rattle.grb_replay.proofs.Walked.{or_nothing}
 use Rattle.grb_slices.proofs.Wants.{is_same_object-self}
-use Rattle.grb_slices.proofs.NextTarget.{walked_all}
+use Rattle.grb_replay.proofs.NextTarget.{walked_all}
 use Rattle.grb_replay.proofs.Valued.{goes_over, not_there, length_all, slice_is, length_none}
 use Rattle.grb_replay.proofs.value.value_of.Goals as goal
 
@@ -44,8 +44,8 @@ returns-clause-content c =
     let s : Store = c.args.whole.now.store in let cs : List Call = map (λ a. a.now) c.args.calls.now in let o = c.args.object in let w : Wants = is_wanted c.want.new.self in
     let walked = (walked_all s c.in_ok-walk.walk c.go_on.new.self cs c.in_ok-walk.ensures.targets (c.in_ok-walk.ensures.shapes ∙ c.shapes.ensures) (c.go_on.ensures.walked s)).0 in
     let equal : c.in_ok-state.state.store ≡ s = ap (λ (r : RoomyStore). r.store) c.in_ok-state.ensures in
-    let over = goes_over w cs c.go_on.new.self c.slice_for.new.calls c.as_slice.result.now c.in_ok-slice.slice s c.in_ok-state.state.store c.make_chosen.new.state.store
-    c.in_ok-slice.ensures.slice walked c.in_ok-slice.ensures.same c.as_slice.ensures.value equal c.in_ok-make_chosen.ensures.over in
+    let over = goes_over w cs c.targets-targets.result.now c.as_slice.result.now c.in_ok-slice.slice s c.in_ok-state.state.store c.make_chosen.new.state.store
+    c.in_ok-slice.ensures.slice (c.targets-targets.ensures ∙ walked) c.as_slice.ensures.value equal c.in_ok-make_chosen.ensures.over in
     let one : w o ≡ is_same_object o o = c.in_ok-want.ensures.ok o ∙ or_nothing (is_same_object o o) (is_wanted c.new-wanted.result o) (c.new-wanted.ensures o) in
     over.follows.agree o (one ∙ is_same_object-self o) ∙ sym (ap (λ (r : Store). content_at r o) c.in_ok-complete.ensures.store)
 
@@ -54,11 +54,11 @@ returns-clause-slice c live p =
     let s : Store = c.args.whole.now.store in let cs : List Call = map (λ a. a.now) c.args.calls.now in let o = c.args.object in let w : Wants = is_wanted c.want.new.self in
     let walked = (walked_all s c.in_ok-walk.walk c.go_on.new.self cs c.in_ok-walk.ensures.targets (c.in_ok-walk.ensures.shapes ∙ c.shapes.ensures) (c.go_on.ensures.walked s)).0 in
     let equal : c.in_ok-state.state.store ≡ s = ap (λ (r : RoomyStore). r.store) c.in_ok-state.ensures in
-    let over = goes_over w cs c.go_on.new.self c.slice_for.new.calls c.as_slice.result.now c.in_ok-slice.slice s c.in_ok-state.state.store c.make_chosen.new.state.store
-    c.in_ok-slice.ensures.slice walked c.in_ok-slice.ensures.same c.as_slice.ensures.value equal c.in_ok-make_chosen.ensures.over in
+    let over = goes_over w cs c.targets-targets.result.now c.as_slice.result.now c.in_ok-slice.slice s c.in_ok-state.state.store c.make_chosen.new.state.store
+    c.in_ok-slice.ensures.slice (c.targets-targets.ensures ∙ walked) c.as_slice.ensures.value equal c.in_ok-make_chosen.ensures.over in
     let one : (q : Object) → w q ≡ is_same_object o q = λ q. c.in_ok-want.ensures.ok q ∙ or_nothing (is_same_object o q) (is_wanted c.new-wanted.result q) (c.new-wanted.ensures q) in
     ap (λ (r : Store). content_at r p) c.in_ok-complete.ensures.store ∙ (over.slice p
-    ∙ ap (λ (ts : List Element). evaluated (content_at s) ts p) (slice_is o s cs c.go_on.new.self.targets w one walked))
+    ∙ ap (λ (ts : List Element). evaluated (content_at s) ts p) (slice_is o s cs c.targets-targets.result.now w one (c.targets-targets.ensures ∙ walked)))
 
 pub returns-clause-gone : goal.returns-clause-gone
 returns-clause-gone c gone =
@@ -75,4 +75,4 @@ returns-clause-evaluated c =
     let live : c.contains.result ≡ true = search rules in
     let one : (q : Object) → w q ≡ is_same_object o q = λ q. c.in_ok-want.ensures.ok q ∙ or_nothing (is_same_object o q) (is_wanted c.new-wanted.result q) (c.new-wanted.ensures q) in
     length_all s o cs c.go_on.new.self.shapes.objects c.in_ok-slice.slice.count walked.1 (sym c.contains.ensures ∙ live)
-    (c.in_ok-slice.ensures.slice.count ∙ ap length (slice_is o s cs c.go_on.new.self.targets w one walked.0))
+    (c.in_ok-slice.ensures.slice.count ∙ ap length (slice_is o s cs c.targets-targets.result.now w one (c.targets-targets.ensures ∙ walked.0)))

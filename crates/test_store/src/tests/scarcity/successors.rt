@@ -1,4 +1,4 @@
-//! A successor without the numbers of freed objects with ever more memory, from none on, each time of a store of its own, until it is not
+//! A branch of all objects that are there, so without the numbers of freed ones, with ever more memory, from none on, each time of a store of its own, until it is not
 //! refused. No contract says that memory is refused, what the old pass and the new ones answer then, or that each object which takes memory
 //! is named.
 ghost use Rattle.std.specs.Prelude.{IfOk};
@@ -23,8 +23,8 @@ const ROOM: u32 = 16;
 /// How many spares there are: a trial uses four.
 const SPARES: usize = 4 * TRIALS + 10;
 
-/// How often a successor is refused at least: its two passes hold more than 100 bytes for each call that it has room for.
-const LEAST: usize = 2 * 16 * 100 / STEP;
+/// How often a successor is refused at least: its two passes hold more than 80 bytes for each call that it has room for.
+const LEAST: usize = 2 * 16 * 80 / STEP;
 
 /// A vector and a matrix of each at a time; the vector that is made first is freed.
 const NUMBERED: &str = "vector f uint64 4
@@ -124,7 +124,7 @@ fn numbered<R: Abort>(
     calls_in(rt, alloc, &text)
 }
 
-/// A successor without the numbers of freed objects.
+/// A branch of the objects that are there.
 fn succeed<R: Abort>(
     rt: &R,
     alloc: Global,
@@ -135,7 +135,8 @@ fn succeed<R: Abort>(
     ensures pass { IsPassOf context.now pass.new }
     ensures q { IfOk result (λ next. IsPassOf next.context next.q) }
 {
-    let (next, passes, _) = context.succeed_live(alloc, pass, ROOM, 2)?;
+    let (matrices, vectors) = (&[MatrixId(0), MatrixId(1)], &[VectorId(1)]);
+    let (next, passes) = context.branch(alloc, pass, matrices, vectors, ROOM, 2)?;
     Ok(with_two(rt, next, passes))
 }
 
@@ -241,7 +242,7 @@ fn refusals_of<R: Abort>(rt: &R, alloc: Global, hoard: &mut Hoard, frame: &Frame
 }
 
 #[test]
-fn a_successor_without_freed_numbers_is_refused_in_turn(rt: HostRuntime) -> Result<(), Fail> {
+fn a_branch_without_freed_numbers_is_refused_in_turn(rt: HostRuntime) -> Result<(), Fail> {
     let (history, old) = numbered(&rt, rt.alloc(), NUMBERED)?;
     let (_, new) = numbered(&rt, rt.alloc(), LIVE)?;
     let frame = Frame { history, old, new };

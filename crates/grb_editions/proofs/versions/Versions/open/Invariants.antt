@@ -4,6 +4,6 @@ use Rattle.grb_editions.proofs.versions.Versions.open.Given as goal
 
 abbrev pub invariant-loop : goal.invariant-loop
 invariant-loop l = record {
-  count : length l.cells.items ≡ l.counter;
-  capacity : vec_capacity l.cells ≡ l.count;
+  count : length l.slots.items ≡ l.counter;
+  capacity : vec_capacity l.slots ≡ l.count;
 }

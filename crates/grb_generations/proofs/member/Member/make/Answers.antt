@@ -3,5 +3,5 @@ use Rattle.grb_generations.proofs.member.Member.make.Goals as goal
 
 pub returns-clause-moved : goal.returns-clause-moved
 returns-clause-moved c = λ e.
-    let old = c.args.self.now in let first = c.make_matrices.new.self in let second = c.make_vectors.new.self in let third = c.succeed.new.self in
-    moves_on old third c.show.new.self (stays_on old second third (stays_on old first second c.make_matrices.ensures c.make_vectors.ensures) c.succeed.ensures.stays) (c.show.ensures.moved e)
+    let old = c.args.self.now in let third = c.succeed.new.self in
+    moves_on old third c.show.new.self (stays_on old c.make_objects.new.self third c.make_objects.ensures c.succeed.ensures.stays) (c.show.ensures.moved e)

@@ -9,4 +9,4 @@ returns-then-is_ok-clause-evaluated g c =
     let is : IsEvaluatedFor p t = subst (λ (x : Table). IsEvaluatedFor p x) (sym c.self.view_is) c.learn.ensures.evaluated in
     let of : IsTableOf cs t = subst (λ (x : Table). IsTableOf cs x) (sym c.self.view_is) (ok_holds c.learn.result _ (sym c.is_ok.ensures.value ∙ c.if-is_ok.true) c.learn.ensures.all) in
     evaluated_kept p t c.begin_with.new.self is (c.begin_with.ensures.table cs of (c.requires.store ∙ ap (λ (k : Knowing). store_of (known k)) (sym c.learn.ensures.same)))
-    c.begin_with.ensures.same.learnt c.begin_with.ensures.stays
+    c.begin_with.ensures.same.learnt (λ all. c.begin_with.ensures.stays)

@@ -1,7 +1,7 @@
 use Rattle.std.proofs.Common.{◌≡◌, ℕ, length, sym, ap, subst, ◌∙◌}
 use Rattle.grb_pass.proofs.Prelude.{IfSome, calls_of, store_of, IsTableOf, MayReply, ReadsObject, IsTable, Table, IsEvaluatedFor, LiesReadyAfter, Knowing, known, waited_for, length-calls_of}
 use Rattle.grb_results.specs.declared.Learnt.{Learnt}
-use Rattle.grb_pass.proofs.Evaluating.{evaluated_same}
+use Rattle.grb_pass.proofs.Evaluating.{evaluated_by}
 use Rattle.grb_pass.proofs.Replying.{given_err, given_ok, kept_settled, live, not_settled}
 use Rattle.grb_pass.proofs.evaluated.Evaluated.reply_of_object.Goals as goal
 
@@ -10,7 +10,7 @@ returns-in_err-make_and_share g c =
     let p : Knowing = c.args.reader.now in let t : Table = c.args.self.now in let q : Knowing = c.make_and_share.new.reader in let u : Table = c.make_and_share.new.self in
     let kept = kept_settled p t c.requires.evaluated c.requires.table c.args.object c.args.call.now c.requires.call in
     let evaluated : IsEvaluatedFor q u = subst (λ (k : Knowing). IsEvaluatedFor k u) (sym c.make_and_share.ensures.same)
-    (evaluated_same p t u c.requires.evaluated (subst (λ (k : Knowing). IsTable (calls_of (known k)) u) c.make_and_share.ensures.same c.make_and_share.ensures.table) c.make_and_share.ensures.learnt (λ all. c.make_and_share.ensures.stays (kept all))) in
+    (evaluated_by p t u c.requires.evaluated (subst (λ (k : Knowing). IsTable (calls_of (known k)) u) c.make_and_share.ensures.same c.make_and_share.ensures.table) (λ all. c.make_and_share.ensures.stays (kept all))) in
     given_err p q t u c.args.call.now c.from_residual.result c.from_residual.ensures.0 c.make_and_share.ensures.same evaluated
     (not_settled p t c.requires.evaluated c.requires.table c.args.object c.args.call.now c.requires.call c.in_err-make_and_share.ensures.memory)
     (λ all. ap (λ (x : Table). x.made) (c.make_and_share.ensures.stays (kept all)))
@@ -20,7 +20,7 @@ complete-requires-clause-evaluated g c =
     let p : Knowing = c.args.reader.now in let t : Table = c.args.self.now in let q : Knowing = c.make_and_share.new.reader in let u : Table = c.make_and_share.new.self in
     let kept = kept_settled p t c.requires.evaluated c.requires.table c.args.object c.args.call.now c.requires.call in
     subst (λ (k : Knowing). IsEvaluatedFor k u) (sym c.make_and_share.ensures.same)
-    (evaluated_same p t u c.requires.evaluated (subst (λ (k : Knowing). IsTable (calls_of (known k)) u) c.make_and_share.ensures.same c.make_and_share.ensures.table) c.make_and_share.ensures.learnt (λ all. c.make_and_share.ensures.stays (kept all)))
+    (evaluated_by p t u c.requires.evaluated (subst (λ (k : Knowing). IsTable (calls_of (known k)) u) c.make_and_share.ensures.same c.make_and_share.ensures.table) (λ all. c.make_and_share.ensures.stays (kept all)))
 
 pub reply-requires-clause-may : goal.reply-requires-clause-may
 reply-requires-clause-may g c =

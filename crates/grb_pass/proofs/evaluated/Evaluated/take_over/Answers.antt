@@ -11,5 +11,5 @@ returns-then-is_ok-clause-evaluated g c =
     let theirs : Knowing = c.args.theirs.now in
     let other : IsTable (calls_of (known theirs)) c.other.inside.table = subst (λ (x : Table). IsTable (calls_of (known theirs)) x) (sym c.other.view_is) c.requires.other.table in
     let begins : Begins (known theirs) (known p) = subst (λ (k : Knowing). Begins (known theirs) (known k)) (sym c.learn.ensures.same) c.requires.begins in
-    evaluated_kept p t c.take_from.new.self is (c.take_from.ensures.table cs (calls_of (known theirs)) of.table other (begins_on (known theirs) (known p) begins))
-    c.take_from.ensures.same.learnt c.take_from.ensures.stays
+    evaluated_kept p t c.take_new.new.self is (c.take_new.ensures.table cs (calls_of (known theirs)) of.table other (begins_on (known theirs) (known p) begins))
+    c.take_new.ensures.same.learnt (λ all. c.take_new.ensures.stays)

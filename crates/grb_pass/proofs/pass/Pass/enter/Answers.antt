@@ -10,6 +10,6 @@ invariant_of-self g c =
     let new = c.enter-back.new.self in let is = c.enter-back.ensures in let token = c.args.token in
     let fresh : OwnBelow token.index p.reader.view = subst (λ (p : Knowing). OwnBelow token.index p.view) (sym c.self.view_is) c.requires.fresh in
     record {
-      step = in_step_tried room p.reader new token p.evaluated c.enter-back.result is.order is.settled is.made is.enters all c.self.invariant.step;
+      step = in_step_tried room p.reader new token p.evaluated c.enter-back.result is.settled is.made is.enters all c.self.invariant.step;
       own = own_tried room p.reader new token c.enter-back.result c.spend.new.self.next is.enters c.requires.index (omega (arith, c.index-index.ensures, c.spend.ensures.later)) fresh;
     }

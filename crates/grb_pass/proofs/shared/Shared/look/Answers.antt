@@ -6,8 +6,7 @@ use Rattle.grb_pass.proofs.shared.Shared.look.Goals as goal
 
 pub invariant_of-pass : goal.invariant_of-pass
 invariant_of-pass g c =
-    let order = c.learn.ensures.pass.order ∙ sym (ap (λ (p : Knowing). p.order) c.pass.view_is ∙ ap (λ (p : Knowing). p.order) c.begin.ensures.same ∙ c.requires.pass.order) in
-    state_learns c.pass.inside.reader c.learn.new.reader c.pass.inside.evaluated c.pass.inside.row.next order c.learn.ensures.learns c.learn.ensures.made c.pass.invariant
+    state_learns c.pass.inside.reader c.learn.new.reader c.pass.inside.evaluated c.pass.inside.row.next c.learn.ensures.learns c.learn.ensures.made c.pass.invariant
 
 pub returns-clause-looks : goal.returns-clause-looks
 returns-clause-looks g c =

@@ -41,5 +41,4 @@ pub invariant_of-pass : goal.invariant_of-pass
 invariant_of-pass g c =
     let p = c.pass.inside in let new = c.meet.new.self in let met = c.meet.ensures.met in
     let begun : p.reader.made ≡ none_made = ap (λ (k : Knowing). k.made) (c.pass.view_is ∙ c.begin.ensures.same) in
-    let was : p.reader.order ≡ c.self.inside.order = ap (λ (k : Knowing). k.order) (c.pass.view_is ∙ c.begin.ensures.same) ∙ c.requires.pass.order ∙ sym (ap (λ (s : Shared). s.order) c.self.view_is) in
-    state_learns p.reader new p.evaluated p.row.next (met.pass.order ∙ sym was) met.learns (met.made ∙ sym begun) c.pass.invariant
+    state_learns p.reader new p.evaluated p.row.next met.learns (met.made ∙ sym begun) c.pass.invariant

@@ -81,18 +81,15 @@ returns-in_err-check-clause-settled g c =
 
 pub invariant_of-pass : goal.invariant_of-pass
 invariant_of-pass g c =
-    let order = c.learn.ensures.pass.order ∙ sym (ap (λ (p : Knowing). p.order) c.pass.view_is ∙ c.requires.pass.order) in
-    state_learns c.pass.inside.reader c.learn.new.reader c.pass.inside.evaluated c.pass.inside.row.next order c.learn.ensures.learns c.learn.ensures.made c.pass.invariant
+    state_learns c.pass.inside.reader c.learn.new.reader c.pass.inside.evaluated c.pass.inside.row.next c.learn.ensures.learns c.learn.ensures.made c.pass.invariant
 
 pub invariant_of-pass-in_err-check : goal.invariant_of-pass-in_err-check
 invariant_of-pass-in_err-check g c =
-    let order = c.learn.ensures.pass.order ∙ sym (ap (λ (p : Knowing). p.order) c.pass.view_is ∙ c.requires.pass.order) in
-    state_learns c.pass.inside.reader c.learn.new.reader c.pass.inside.evaluated c.pass.inside.row.next order c.learn.ensures.learns c.learn.ensures.made c.pass.invariant
+    state_learns c.pass.inside.reader c.learn.new.reader c.pass.inside.evaluated c.pass.inside.row.next c.learn.ensures.learns c.learn.ensures.made c.pass.invariant
 
 pub invariant_of-pass-2 : goal.invariant_of-pass-2
 invariant_of-pass-2 g c =
-    let order = c.learn.ensures.pass.order ∙ sym (ap (λ (p : Knowing). p.order) c.pass.view_is ∙ c.requires.pass.order) in
-    state_learns c.pass.inside.reader c.learn.new.reader c.pass.inside.evaluated c.pass.inside.row.next order c.learn.ensures.learns c.learn.ensures.made c.pass.invariant
+    state_learns c.pass.inside.reader c.learn.new.reader c.pass.inside.evaluated c.pass.inside.row.next c.learn.ensures.learns c.learn.ensures.made c.pass.invariant
 
 pub returns-clause-made : goal.returns-clause-made
 returns-clause-made g c none = read_none c.learn.new.reader c.reply.new.self c.args.call.now c.args.pass.now.settled c.reply.ensures.replied.same (c.learn.ensures.learns.settled ∙ ap (λ (p : Knowing). p.settled) c.pass.view_is) (by_shapes-ok (store_of (known c.learn.new.reader)) c.args.call.now c.in_ok-check.field-0 (sym c.check.ensures ∙ c.in_ok-check.was)) c.reply.ensures.size c.reply.ensures.replied.made none ∙ ap (λ (m : Making). m.count) (c.learn.ensures.made ∙ ap (λ (p : Knowing). p.made) c.pass.view_is)

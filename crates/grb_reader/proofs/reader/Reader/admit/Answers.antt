@@ -10,4 +10,4 @@ invariant_of-self c =
     (subst (λ (p : Knowing). length p.shown < length p.view.words) back c.requires.next)
     (subst (λ (p : Knowing). token.pass ≡ number_of (get_or p.view.words (length p.shown) 0)) back c.requires.pass)
     (subst (λ (p : Knowing). token.index ≡ index_of (get_or p.view.words (length p.shown) 0)) back c.requires.index)
-    c.requires.call c.push_reserved.ensures.items c.push_reserved.ensures.capacity c.go_over.ensures.shapes c.go_over.ensures.room c.go_over.ensures.targets
+    c.requires.call c.push_reserved.ensures.items c.push_reserved.ensures.capacity c.absorb.ensures.objects c.absorb.ensures.room

@@ -3,8 +3,8 @@ use Rattle.grb_reader.proofs.Prelude.{order_word, enters_word, refused_by_shapes
 use Rattle.grb_reader.proofs.Readers.{kept_won, kept_lost, kept_order, sound_order, steady}
 use Rattle.grb_reader.proofs.reader.Reader.enter.Goals as goal
 
-pub take_in-requires-clause-accepted : goal.take_in-requires-clause-accepted
-take_in-requires-clause-accepted c =
+pub absorb_accepted-requires-clause-accepted : goal.absorb_accepted-requires-clause-accepted
+absorb_accepted-requires-clause-accepted c =
     ap (λ (s : ObjectShapes). refused_by_shapes s c.args.call.now) c.self.invariant.shapes_are
     ∙ subst (λ (p : Knowing). refused_by_shapes (shapes_of (store_of (known p))) c.args.call.now ≡ None) (sym c.self.view_is) c.requires.accepted
 
@@ -20,7 +20,7 @@ invariant_of-self c =
     c.requires.index
     (c.in-Won.ensures.entered.0 ∙ ap (λ n. enters_word seat.view (order_word seat.view.number n)) index)
     (sound_order _ _ _ same c.enter.ensures.sound)
-    c.requires.call c.push_reserved.ensures.items c.push_reserved.ensures.capacity c.take_in.ensures.shapes c.take_in.ensures.room c.take_in.ensures.targets)
+    c.requires.call c.push_reserved.ensures.items c.push_reserved.ensures.capacity c.absorb_accepted.ensures.objects c.absorb_accepted.ensures.room)
 
 pub invariant_of-self-in-Lost : goal.invariant_of-self-in-Lost
 invariant_of-self-in-Lost c =

@@ -1,7 +1,8 @@
-use Rattle.std.proofs.Common.{Some, refl, slice_set}
+use Rattle.std.proofs.Common.{Some, refl, slice_set, arith}
 use Rattle.grb_results.proofs.Exchanging.{filled_keeps}
 use Rattle.grb_results.proofs.Frame.{table_put, taken_put}
 use Rattle.grb_results.proofs.Lists.{set_here}
+use Rattle.grb_results.proofs.Settled.{apart_none}
 use Rattle.grb_results.proofs.table.Table.fill.Goals as goal
 
 pub returns-clause-taken : goal.returns-clause-taken
@@ -10,7 +11,8 @@ returns-clause-taken c theirs w stands same =
     taken_put xs theirs (slice_set xs c.args.at (Some c.args.value)) c.args.at c.args.value w stands same refl
 
 pub returns-clause-table : goal.returns-clause-table
-returns-clause-table c cs was is = table_put cs c.args.self.now _ c.args.at c.args.value was is refl refl
+returns-clause-table c cs was is =
+    table_put cs c.args.self.now _ c.args.at c.args.value was (apart_none c.args.self.now c.args.at was.settled c.in_default.ensures.none) is refl (omega arith) refl
 
 pub returns-clause-stays : goal.returns-clause-stays
 returns-clause-stays c = filled_keeps c.args.self.now.results.items c.args.at c.args.value c.in_default.ensures.none

@@ -13,7 +13,7 @@ places-preserved g c os s agree same =
     more_agree _ _ os c.args.read.now c.places.place c.object_at.result c.object_at.ensures
     (c.in_ok-hold-in-Some.ensures s (os ++ take c.places.place c.args.read.now) (c.places.invariant os s agree same)
     (same c.object_at.result (among_at c.args.read.now c.places.place c.object_at.result c.object_at.ensures)
-    ∙ read_held cs c.args.self.now c.requires.table c.args.at c.requires.near c.args.read.now c.requires.read c.places.place _ c.node_at.result.now c.object_at.result c.in-Some.value c.object_at.ensures
+    ∙ read_held cs c.args.self.now c.requires.table c.args.at c.requires.near c.args.read.now c.requires.read c.places.place _ c.node_at.result c.object_at.result c.in-Some.value c.object_at.ensures
     c.node_at.ensures c.if-link-eq0.false (some_at _ _ c.in-Some.value c.in-Some.is (c.in_ok-value.ensures cs c.requires.table))))
 
 pub returns : goal.returns

@@ -1,4 +1,4 @@
-use Rattle.std.proofs.Common.{◌≡◌, ◌+◌, length}
+use Rattle.std.proofs.Common.{◌≡◌, ◌+◌, ◌<◌, length}
 use Rattle.grb_results.proofs.Prelude.{IsTable}
 use Rattle.grb_results.proofs.table.Table.learn_all.Given as goal
 
@@ -7,7 +7,6 @@ invariant-calls g l = record {
   same : l.calls ≡ l.initial.calls;
   table : IsTable (g.C.CallList.calls l.source l.initial.calls) l.self;
   here : length l.self.learnt.nodes.items ≡ l.at;
-  room : length l.self.learnt.nodes.items + l.self.learnt.shapes.room ≡ length l.initial.self.learnt.nodes.items + l.initial.self.learnt.shapes.room;
   made : l.self.made ≡ l.initial.self.made;
-  stays : length l.initial.self.learnt.nodes.items ≡ length (g.C.CallList.calls l.source l.initial.calls) → l.self ≡ l.initial.self;
+  fewer : length l.initial.self.learnt.nodes.items < length (g.C.CallList.calls l.source l.initial.calls);
 }

@@ -1,13 +1,13 @@
 use Rattle.std.proofs.Common.{◌-◌, arith, List, sym, ◌∙◌}
 use Rattle.grb_results.proofs.Prelude.{Call}
 use Rattle.grb_results.proofs.Frame.{last_leads}
-use Rattle.grb_results.proofs.LastKept.{last_there}
+use Rattle.grb_results.proofs.Settled.{last_there}
 use Rattle.grb_results.proofs.table.Table.make.Goals as goal
 
 pub returns-then-count-eq0-clause-kept : goal.returns-then-count-eq0-clause-kept
 returns-then-count-eq0-clause-kept g c live =
     let cs : List Call = g.C.CallList.calls c.args.source.now c.args.calls.now in
-    absurd (last_there cs c.args.self.now c.args.object c.requires.table.table (sym c.last_of-count.ensures ∙ c.if-count-eq0.true) live)
+    absurd (last_there cs c.args.self.now.learnt c.args.object c.requires.table.table.learnt (sym c.last_of-count.ensures ∙ c.if-count-eq0.true) live)
 
 pub evaluate-requires-clause-to_make : goal.evaluate-requires-clause-to_make
 evaluate-requires-clause-to_make g c =

@@ -6,4 +6,5 @@ invariant-places l = record {
   results : l.self.results ≡ l.initial.self.results;
   learnt : l.self.learnt ≡ l.initial.self.learnt;
   made : l.self.made ≡ l.initial.self.made;
+  settled : l.self.settled ≡ l.initial.self.settled;
 }

@@ -1,9 +1,0 @@
-use Rattle.std.proofs.Common.{◌≡◌, ◌%◌, ◌<◌, ◌≤◌, IfSome, length}
-use Rattle.counted_slot.specs.Counting.{readers}
-use Rattle.grb_editions.proofs.slots.shortest.Given as goal
-
-abbrev pub invariant-slots : goal.invariant-slots
-invariant-slots l = record {
-  least : l.shortest ≤ l.below;
-  found : IfSome l.found (λ seen. (seen.at < length l.slots) × (seen.word % 4 < 3) × (readers seen.word ≡ 0) × (0 < l.below));
-}

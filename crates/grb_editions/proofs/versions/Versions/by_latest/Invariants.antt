@@ -1,5 +1,0 @@
-use Rattle.std.proofs.Common.{◌≡◌}
-use Rattle.grb_editions.proofs.versions.Versions.by_latest.Given as goal
-
-abbrev pub invariant-looks : goal.invariant-looks
-invariant-looks l = l.table ≡ l.initial.table
