@@ -111,7 +111,9 @@ void values(grb::Pass &pass)
     pass.set(w, 1, 7);
     require(pass.get(w, 1) == 7, "either name of an unsigned integer of 64 bits is taken");
     const auto known = pass.facts().known;
+    require(pass.costs().entries > 0, "a pass keeps the entries of what it has made");
     pass.release();
+    require(pass.costs().entries == 0, "a pass that is released keeps none");
     require(pass.facts().known == known && pass.get(w, 1) == 7, "a pass that is released knows what it knew");
 }
 

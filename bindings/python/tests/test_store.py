@@ -11,6 +11,7 @@ from trowelheath import (
     MOST_PASSES,
     MOST_ROOM,
     MOST_SEATS,
+    Costs,
     Facts,
     Info,
     InvalidValue,
@@ -254,6 +255,21 @@ class Passes(StoreCase):
         v.wait("materialize")
         facts = self.q.facts()
         self.assertEqual((facts.known, facts.settled, facts.room_left), (2, 2, self.room - 2))
+
+    def test_costs_tell_what_a_pass_keeps_and_has_left(self) -> None:
+        v = self.p.vector(5)
+        v[0] = 1
+        v[3] = 1
+        before = self.p.costs()
+        self.assertIsInstance(before, Costs)
+        self.assertEqual((before.entries, before.entries_left), (0, 0))
+        v.wait("materialize")
+        after = self.p.costs()
+        self.assertEqual((after.entries, after.entries_left), (2, 2))
+        self.assertGreater(after.looks, before.looks)
+        self.assertEqual(self.q.costs(), Costs(entries=0, entries_left=2, looks=0))
+        self.p.release()
+        self.assertEqual(self.p.costs(), Costs(entries=0, entries_left=2, looks=after.looks))
 
     def test_reads_take_no_room(self) -> None:
         v = self.p.vector(5)

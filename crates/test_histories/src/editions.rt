@@ -1,8 +1,8 @@
 //! Editions: which of them serve which calls, and which are kept.
 //!
 //! The contract of `take_into` says that what is found are results of the calls. That an edition is found where one serves, the longest that
-//! does, which offers and which of the results that are left are kept, whether they would be, that a table then has them, that an edition
-//! which is not kept is no refusal, what a pass has looked at, and which editions are let go, no contract says.
+//! does, which offers and which of the results that are left are kept, whether they would be, that a table then has them, and that an edition
+//! which is not kept is no refusal, no contract says.
 ghost use Rattle.std.specs.Prelude.{◌≤◌, length, map, IfOk};
 ghost use Rattle.grb_results.specs.Kept.{AreKept};
 
@@ -19,7 +19,7 @@ use std::process::Abort;
 
 /// A history by numbers: 0 and 1 make a vector of size 2 or 3, and any other sets the first one's index 0 to the number less one.
 #[derive(Clone, Copy)]
-enum History {
+pub(crate) enum History {
     These(&'static [u64]),
     /// A vector, and sets by the numbers from 2 to this one: as many calls as the number.
     Until(u64),
@@ -70,7 +70,7 @@ pub(crate) fn results_of(alloc: Global, calls: &[&Call]) -> Result<Vec<Kept>, Al
 }
 
 /// A pass offers results of the calls, and the calls.
-fn offer_by(
+pub(crate) fn offer_by(
     rt: &impl Abort,
     alloc: Global,
     versions: &Versions,
@@ -87,7 +87,7 @@ fn offer_by(
 }
 
 /// Another pass does.
-fn offer(
+pub(crate) fn offer(
     rt: &impl Abort,
     alloc: Global,
     versions: &Versions,
@@ -97,7 +97,7 @@ fn offer(
 }
 
 /// A pass leaves results of the calls, and the calls.
-fn leave_by(
+pub(crate) fn leave_by(
     rt: &impl Abort,
     alloc: Global,
     versions: &Versions,
@@ -114,7 +114,7 @@ fn leave_by(
 }
 
 /// Another pass does.
-fn leave(
+pub(crate) fn leave(
     rt: &impl Abort,
     alloc: Global,
     versions: &Versions,
@@ -124,7 +124,12 @@ fn leave(
 }
 
 /// Leaves results of more calls than `most`, so often that each of the latest has more.
-fn crowd(rt: &impl Abort, alloc: Global, versions: &Versions, most: u64) -> Result<(), AllocError> {
+pub(crate) fn crowd(
+    rt: &impl Abort,
+    alloc: Global,
+    versions: &Versions,
+    most: u64,
+) -> Result<(), AllocError> {
     for more in 1..5 {
         leave(rt, alloc, versions, Until(most.wrapping_add(more)))?;
     }
@@ -151,7 +156,7 @@ fn stored_before(table: &Table, count: usize) -> Option<u64> {
 
 /// Of how many calls an edition is from which a table takes results of these calls for a pass, and what the vector stores by the latest of
 /// them; none where it takes none.
-fn taken_by(
+pub(crate) fn taken_by(
     rt: &impl Abort,
     alloc: Global,
     versions: &Versions,
@@ -417,13 +422,13 @@ struct Latest {
     found: Option<(usize, Option<u64>)>,
 }
 
-const TWO: History = These(&[0, 2]);
+pub(crate) const TWO: History = These(&[0, 2]);
 
-const THREE: History = These(&[0, 2, 3]);
+pub(crate) const THREE: History = These(&[0, 2, 3]);
 
-const FOUR: History = These(&[0, 2, 3, 4]);
+pub(crate) const FOUR: History = These(&[0, 2, 3, 4]);
 
-const FIVE: History = These(&[0, 2, 3, 4, 5]);
+pub(crate) const FIVE: History = These(&[0, 2, 3, 4, 5]);
 
 static LATEST: [Latest; 15] = [
     Latest {
@@ -554,229 +559,6 @@ fn expect_latest(rt: &impl Abort, alloc: Global, row: &Latest) -> Result<(), All
 fn the_latest_are_four(rt: HostRuntime) -> Result<(), AllocError> {
     for row in &LATEST {
         expect_latest(&rt, rt.alloc(), row)?;
-    }
-    Ok(())
-}
-
-/// What was offered, and what was left; of how many calls at most a pass has looked at editions, and how many are known; and whether there is
-/// one of no more than the known that it has not looked at, among the latest alone, and in any place.
-static BEYOND: [(&[History], &[History], u64, usize, bool, bool); 12] = [
-    (&[], &[], 0, 5, false, false),
-    (&[TWO], &[], 0, 1, false, false),
-    (&[TWO], &[], 0, 2, false, true),
-    (&[TWO], &[], 1, 5, false, true),
-    (&[TWO], &[], 2, 5, false, false),
-    (&[TWO, Until(65)], &[], 2, 64, false, false),
-    (&[TWO, Until(65)], &[], 2, 65, false, true),
-    (&[TWO], &[THREE], 2, 2, false, false),
-    (&[TWO], &[THREE], 2, 3, true, true),
-    (&[TWO], &[THREE], 3, 5, false, false),
-    (&[Until(64), Until(65)], &[], 64, 65, true, true),
-    (&[Until(64), Until(65)], &[], 63, 64, false, true),
-];
-
-#[test]
-fn an_edition_is_looked_for_by_numbers_of_calls(rt: HostRuntime) -> Result<(), AllocError> {
-    for (at, (offered, left, seen, known, latest, any)) in BEYOND.iter().enumerate() {
-        let versions = Versions::open(rt.alloc(), 128)?;
-        for history in *offered {
-            offer(&rt, rt.alloc(), &versions, *history)?;
-        }
-        for history in *left {
-            leave(&rt, rt.alloc(), &versions, *history)?;
-        }
-        let mut looked = Looked::none();
-        if *seen > 0 {
-            for _ in 0..2 {
-                taken_by(&rt, rt.alloc(), &versions, Until(*seen), &mut looked)?;
-            }
-        }
-        let found = versions.has_new(&looked, *known);
-        crowd(&rt, rt.alloc(), &versions, 66)?;
-        let stays = versions.has_new(&looked, *known);
-        same(
-            &rt,
-            (found && !stays, found),
-            (*latest, *any),
-            ("row from 0", at),
-        );
-    }
-    Ok(())
-}
-
-/// What a pass does with editions, or another: each of four calls at most.
-#[derive(Clone, Copy)]
-enum Does {
-    /// Another leaves results of these calls.
-    AnotherLeaves(History),
-    /// It leaves results of these calls itself.
-    Leaves(History),
-    /// It offers results of these calls itself.
-    Offers(History),
-    /// It takes results of these calls, from an edition of so many, or from none.
-    Takes(History, usize),
-    /// It lets all its results go.
-    Clears,
-}
-
-use Does::{AnotherLeaves, Clears, Leaves, Offers, Takes};
-
-/// What is done in turn, whether there is an edition of up to five calls then that the pass has not looked at, and how many calls were
-/// compared by then.
-static LOOKED: [(Does, bool, u64); 20] = [
-    (Takes(FIVE, 0), false, 0),
-    (AnotherLeaves(THREE), true, 0),
-    (Takes(TWO, 0), true, 0),
-    (Takes(FIVE, 3), false, 3),
-    (Takes(FIVE, 0), false, 3),
-    (AnotherLeaves(THREE), true, 3),
-    (Takes(FOUR, 3), false, 6),
-    (AnotherLeaves(These(&[0, 9, 3])), true, 6),
-    (Takes(FIVE, 0), false, 8),
-    (Takes(FIVE, 0), false, 8),
-    (Leaves(FOUR), false, 8),
-    (Takes(FOUR, 0), false, 8),
-    (Offers(TWO), false, 8),
-    (Takes(FOUR, 0), false, 8),
-    (AnotherLeaves(FOUR), true, 8),
-    (Takes(THREE, 0), true, 8),
-    (Takes(FIVE, 4), false, 12),
-    (Clears, true, 12),
-    (Takes(FIVE, 4), true, 16),
-    (Takes(FIVE, 2), false, 20),
-];
-
-/// Does one step of a pass.
-fn do_one(
-    rt: &impl Abort,
-    alloc: Global,
-    versions: &Versions,
-    does: Does,
-    looked: &mut Looked,
-) -> Result<(), AllocError> {
-    match does {
-        AnotherLeaves(history) => leave(rt, alloc, versions, history),
-        Leaves(history) => leave_by(rt, alloc, versions, history, looked),
-        Offers(history) => offer_by(rt, alloc, versions, history, looked),
-        Takes(history, wanted) => {
-            let length = match taken_by(rt, alloc, versions, history, looked)? {
-                Some((length, _)) => length,
-                None => 0,
-            };
-            same(rt, length, wanted, "an edition of so many calls");
-            Ok(())
-        }
-        Clears => {
-            looked.clear();
-            Ok(())
-        }
-    }
-}
-
-#[test]
-fn a_pass_compares_no_edition_twice_and_none_of_its_own(rt: HostRuntime) -> Result<(), AllocError> {
-    let versions = Versions::open(rt.alloc(), 128)?;
-    let mut looked = Looked::none();
-    for (at, (does, has_new, compared)) in LOOKED.iter().enumerate() {
-        do_one(&rt, rt.alloc(), &versions, *does, &mut looked)?;
-        let found = (versions.has_new(&looked, 5), looked.compared());
-        same(&rt, found, (*has_new, *compared), ("row from 0", at));
-    }
-    Ok(())
-}
-
-/// A vector with two entries, and one with one entry: five calls; and these calls after them.
-fn two_vectors(alloc: Global, after: &[After]) -> Result<Vec<Call>, AllocError> {
-    let mut calls = Vec::new(alloc);
-    for size in [2, 2] {
-        calls.push(Call::NewVector {
-            domain: Domain::Uint64,
-            size,
-        })?;
-    }
-    for (number, i) in [(0, 0), (0, 1), (1, 0)] {
-        calls.push(Call::SetVector {
-            v: VectorId(number),
-            i,
-            value: Value::Uint64(7),
-        })?;
-    }
-    for one in after {
-        calls.push(match *one {
-            After::Frees(number) => Call::FreeVector {
-                v: VectorId(number),
-            },
-            After::Clears(number) => Call::ClearVector {
-                v: VectorId(number),
-            },
-            After::Sets(number) => Call::SetVector {
-                v: VectorId(number),
-                i: 1,
-                value: Value::Uint64(9),
-            },
-        })?;
-    }
-    Ok(calls)
-}
-
-/// A call that comes after an edition, and the number of its vector.
-#[derive(Clone, Copy)]
-enum After {
-    Frees(u32),
-    Clears(u32),
-    Sets(u32),
-}
-
-use After::{Frees, Sets};
-
-/// What comes after the five calls, how many calls the table has learnt that is asked, and how many entries the edition has then of its three.
-static LET_GO: [(&[After], usize, u64); 9] = [
-    (&[], 5, 3),
-    (&[Sets(1)], 6, 3),
-    (&[Sets(0)], 6, 0),
-    (&[Frees(1)], 6, 3),
-    (&[Frees(0)], 6, 0),
-    (&[After::Clears(0)], 6, 0),
-    (&[Frees(0)], 5, 3),
-    (&[], 4, 3),
-    (&[], 0, 3),
-];
-
-/// Two passes keep results of the five calls: one by which lengths double, and one of the latest.
-fn keep_two_vectors(rt: &impl Abort, alloc: Global, versions: &Versions) -> Result<(), AllocError> {
-    let calls = two_vectors(alloc, &[])?;
-    let lent = lent(alloc, &calls)?;
-    if lent.len() > 4096 {
-        panic!(rt; "{calls} calls", calls = lent.len());
-    }
-    versions.offer(&lent, results_of(alloc, &lent)?, &mut Looked::none())?;
-    versions.leave(&lent, results_of(alloc, &lent)?, &mut Looked::none())
-}
-
-#[test]
-fn an_edition_lets_go_what_is_not_the_last_of_its_objects(
-    rt: HostRuntime,
-) -> Result<(), AllocError> {
-    for (at, (after, count, entries)) in LET_GO.iter().enumerate() {
-        let versions = Versions::open(rt.alloc(), 64)?;
-        keep_two_vectors(&rt, rt.alloc(), &versions)?;
-        same(&rt, versions.entries(), 6, "two editions");
-        let calls = two_vectors(rt.alloc(), after)?;
-        let lent = lent(rt.alloc(), &calls)?;
-        if lent.len() < *count || *count > 4096 {
-            panic!(rt; "{calls} calls", calls = lent.len());
-        }
-        let table = learnt(rt.alloc(), &lent[..*count])?;
-        versions.let_go(&table);
-        let found = (versions.entries(), versions.has_new(&Looked::none(), 5));
-        same(
-            &rt,
-            found,
-            (entries.wrapping_mul(2), *entries > 0),
-            ("row from 0", at),
-        );
-        keep_two_vectors(&rt, rt.alloc(), &versions)?;
-        same(&rt, versions.entries(), 6, ("and anew, row from 0", at));
     }
     Ok(())
 }

@@ -14,6 +14,10 @@ mod editions;
 #[cfg(test)]
 mod histories;
 #[cfg(test)]
+mod let_go;
+#[cfg(test)]
+mod looked;
+#[cfg(test)]
 mod memory;
 #[cfg(test)]
 mod operations;

@@ -56,6 +56,27 @@ fn passes_are_numbered_from_0() {
 }
 
 #[test]
+fn costs_tell_what_a_pass_keeps_and_has_left() {
+    let [mut own, mut other] = Store::open_array(10).unwrap();
+    let v = own.new_vector::<u64>(3).unwrap();
+    own.set(v, 0, 1).unwrap();
+    own.set(v, 2, 1).unwrap();
+    let before = own.costs().unwrap();
+    assert_eq!((before.entries, before.entries_left), (0, 0));
+
+    own.wait(v, Wait::Materialize).unwrap();
+    let after = own.costs().unwrap();
+    assert_eq!((after.entries, after.entries_left), (2, 2));
+    assert!(after.looks > before.looks);
+    let others = other.costs().unwrap();
+    assert_eq!((others.entries, others.entries_left, others.looks), (0, 2, 0));
+
+    own.release().unwrap();
+    let released = own.costs().unwrap();
+    assert_eq!((released.entries, released.entries_left, released.looks), (0, 2, after.looks));
+}
+
+#[test]
 fn changes_take_room_and_reads_take_none() {
     let [mut pass] = Store::open_array(10).unwrap();
     let v = pass.new_vector::<u64>(3).unwrap();
